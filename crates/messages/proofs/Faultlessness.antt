@@ -1,0 +1,109 @@
+-- What follows where no check of a message fails.
+use Prim.Native.Nat.{ℕ, zero, suc, _+_, _-_, _<_, _≤_}
+use mathlib.Core.Bool.{Bool, true, false, cond, not, _&&_, _||_}
+use mathlib.Core.List.{List, [], _∷_, _++_}
+use mathlib.Core.Path.{_≡_, refl, sym, ap, subst, _∙_}
+use native.Mathlib.Omega.{arith}
+use lib.Dec.{eqb, leb, ltb}
+use lib.ListN.{length, getD, take, drop}
+use Rattle.bytes.specs.Bytes.{number}
+use Rattle.messages.proofs.Judging.{start-le, known-decides, given-decides, none-wrong}
+use Rattle.messages.specs.Composing.{outside}
+use Rattle.messages.specs.Layout.{write-start, message-length}
+use Rattle.messages.specs.Reading.{Check, checks, write-checks, first-fault, judged, node-in, setting-in, known, given-before, summary-in, write-in, Faultless}
+use Rattle.messages.specs.declared.fault.Fault.{Fault}
+use Rattle.messages.specs.declared.parts.Header.{Header}
+use Rattle.messages.specs.declared.parts.Write.{Write}
+use Rattle.std.proofs.shelf.Edits.{length-between}
+use Rattle.std.proofs.shelf.Tests.{eqb-true, eqb-false, ltb-false, not-false, or-parts, lt-ltb, le-leb, and-from, cond-true, both-ways}
+use Rattle.std.specs.Holes.{between}
+use Rattle.std.specs.Iters.{counting}
+use Rattle.std.specs.Joined.{joined}
+use Rattle.std.specs.Options.{isSome, mapped}
+use Rattle.std.specs.Vec.{made}
+use Rattle.std.specs.shelf.Lists.{All, Has}
+use Rattle.std.specs.declared.option.Option.{Option}
+use Rattle.std.specs.declared.option.Option.the-variants.{Some, None}
+use Rattle.std.specs.declared.result.Result.{Result}
+use Rattle.std.specs.declared.result.Result.the-variants.{Ok, Err}
+
+not-outside : (most n : ℕ) → outside most n ≡ false → (1 ≤ n) × (n ≤ most)
+not-outside most n h =
+    let parts = or-parts (eqb n 0) (ltb most n) h in
+    let some : n ≡ 0 → ⊥ = eqb-false n 0 (parts .0) in
+    (by n some, ltb-false most n (parts .1))
+  where
+    by : (k : ℕ) → (k ≡ 0 → ⊥) → 1 ≤ k
+    by zero other = absurd (other refl)
+    by (suc k) other = omega arith
+
+-- what holds of pieces joined holds of each piece
+all-left : {Y : Type 0} (P : Y → Type 0) (xs ys : List Y) → All P (xs ++ ys) → All P xs
+all-left P [] ys h = tt
+all-left P (x ∷ xs) ys h = (h .0, all-left P xs ys (h .1))
+
+all-right : {Y : Type 0} (P : Y → Type 0) (xs ys : List Y) → All P (xs ++ ys) → All P ys
+all-right P [] ys h = h
+all-right P (x ∷ xs) ys h = all-right P xs ys (h .1)
+
+all-piece : {Y : Type 0} (P : Y → Type 0) (f : ℕ → List Y) (a n i : ℕ) → All P (joined f (counting a n)) → i < n → All P (f (a + i))
+all-piece P f a zero i h low = absurd (omega arith)
+all-piece P f a (suc n) zero h low = let first : a ≡ a + 0 = omega arith in subst (λ k. All P (f k)) first (all-left P (f a) _ h)
+all-piece P f a (suc n) (suc i) h low =
+    let next : a + 1 + i ≡ a + suc i = omega arith in
+    subst (λ k. All P (f k)) next (all-piece P f (a + 1) n i (all-right P (f a) _ h) (omega arith))
+
+-- an option with something in it
+there : {T : Type 0} (o : Option T) → isSome o ≡ true → (x : T) × (o ≡ Some x)
+there None h = let z : _≡_ {A = ℕ} 0 1 = cc in absurd (omega arith)
+there (Some x) h = (x, refl)
+
+module _ {T : Type 0} (W X : ℕ) (reading : List ℕ → Option T) (suites stamp : ℕ) (nodes m : List ℕ)
+    (fine : All (λ c. c .0 ≡ false) (checks W X reading suites stamp nodes m)) where
+  count-parts : (outside 16 (getD m 5 0) ≡ false) × (not (eqb (length m) (message-length W X (getD m 5 0))) ≡ false)
+  count-parts = or-parts (outside 16 (getD m 5 0)) _ (fine .1 .1 .1 .1 .0)
+
+  long : length m ≡ message-length W X (getD m 5 0)
+  long = eqb-true _ _ (not-false _ (count-parts .1))
+
+  write-fine : (i : ℕ) → i < getD m 5 0 → All (λ c. c .0 ≡ false) (write-checks W X reading nodes m i)
+  write-fine i h =
+      let same : 0 + i ≡ i = omega arith in
+      subst (λ k. All (λ c. c .0 ≡ false) (write-checks W X reading nodes m k)) same
+      (all-piece (λ c. c .0 ≡ false) (write-checks W X reading nodes m) 0 (getD m 5 0) i (fine .1 .1 .1 .1 .1 .1) h)
+
+  node-parts : (i : ℕ) → i < getD m 5 0 → (not (known nodes (node-in W X m i)) ≡ false) × (given-before W X m (node-in W X m i) i ≡ false)
+  node-parts i h = or-parts (not (known nodes (node-in W X m i))) _ (write-fine i h .0)
+
+  write-there : (i : ℕ) → i < getD m 5 0 → (w : Write T) × (write-in W X reading m i ≡ Some w) × (w .node ≡ node-in W X m i) × Has nodes (w .node)
+  write-there i h =
+      let next = start-le W X (i + 1) (getD m 5 0) (omega arith) in
+      let whole : (ltb i (getD m 5 0) && leb (write-start W X (i + 1)) (length m)) ≡ true =
+      and-from (ltb i (getD m 5 0)) _ (lt-ltb i (getD m 5 0) h) (le-leb _ (length m) (omega (arith, next, long))) in
+      let setting = there (reading (setting-in W X m i)) (not-false _ (write-fine i h .1 .0)) in (
+        record { node = node-in W X m i; setting = setting .0 },
+        cond-true _ _ _ whole ∙ ap (mapped (λ s. record { node = node-in W X m i; setting = s })) (setting .1),
+        refl,
+        known-decides nodes (node-in W X m i) .0 (not-false _ (node-parts i h .0)),
+      )
+
+  pub faultless : Faultless W X reading suites stamp nodes m
+  faultless = record {
+    suite-there = not-outside suites (getD m 3 0) (fine .1 .1 .0);
+    slot-there = not-outside 4 (getD m 4 0) (fine .1 .1 .1 .0);
+    few-writes = not-outside 16 (getD m 5 0) (count-parts .0);
+    whole = long;
+    snapshot-in = ltb-false stamp (number (between 6 10 m)) (fine .1 .1 .1 .1 .1 .0);
+    summary-whole = length-between m 10 (10 + W) (let low = start-le W X 0 (getD m 5 0) (omega arith) in omega (arith, low, long)) ∙ omega arith;
+    each = write-there;
+    different = λ i j low inside same. both-ways (given-before W X m (node-in W X m j) j) (node-parts j inside .1) (given-decides W X m (node-in W X m j) j .1 (i, low, same));
+  }
+
+-- what a reader learns who got no fault
+pub judged-faultless : {T : Type 0} (W X : ℕ) (reading : List ℕ → Option T) (suites stamp : ℕ) (nodes m : List ℕ) (h : Header) →
+    made (judged (first-fault (checks W X reading suites stamp nodes m)) h) (λ _. Faultless W X reading suites stamp nodes m)
+judged-faultless W X reading suites stamp nodes m h = by (first-fault (checks W X reading suites stamp nodes m)) refl
+  where
+    by : (o : Option Fault) → first-fault (checks W X reading suites stamp nodes m) ≡ o → made (judged o h) (λ _. Faultless W X reading suites stamp nodes m)
+    by None e = faultless W X reading suites stamp nodes m (none-wrong (checks W X reading suites stamp nodes m) e)
+    by (Some f) e = tt

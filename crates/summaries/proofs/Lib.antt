@@ -1,0 +1,4 @@
+mod Words
+mod ExactLaws
+mod Bits
+mod BloomLaws

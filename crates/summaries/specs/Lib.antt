@@ -1,0 +1,4 @@
+pub mod Calls
+pub mod ExactLists
+pub mod Hashes
+pub mod Blooms

@@ -1,0 +1,4 @@
+pub mod Examples
+pub mod Pairs
+pub mod Reading
+pub mod Spaces

@@ -1,0 +1,5 @@
+use mathlib.Core.Path.{refl}
+use Rattle.texts.proofs.line.Fields.new.Needs as need
+
+pub returns : need.returns
+returns c = refl
