@@ -23,13 +23,7 @@ first=${2:-1}
 seeds=${3:-10}
 cases=${4:-400}
 
-root=$(cd "$(dirname "$0")/.." && pwd)
-cargo build --release --offline --quiet \
-	--manifest-path "$root/oracle/Cargo.toml" --target-dir "$root/oracle/target"
-oracle=$root/oracle/target/release/oracle
-
-work=$(mktemp -d)
-trap 'rm -rf "$work"' EXIT
+. "$(dirname "$0")/oracle.sh"
 
 # Answers $work/input with both; true if the answers are the same and the
 # program ended with status 0.

@@ -10,12 +10,7 @@
 # vectors are moreover those of the public library that the vectors were made with. `rt ci` runs the tool on the lines and
 # compares what it writes with the answers. The last line lacks its line end, on purpose.
 set -eu
-root=$(cd "$(dirname "$0")/.." && pwd)
-cargo build --release --offline --quiet \
-	--manifest-path "$root/oracle/Cargo.toml" --target-dir "$root/oracle/target"
-oracle=$root/oracle/target/release/oracle
-work=$(mktemp -d)
-trap 'rm -rf "$work"' EXIT
+. "$(dirname "$0")/oracle.sh"
 
 {
 	"$oracle" generate 1 150

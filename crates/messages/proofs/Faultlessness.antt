@@ -1,4 +1,4 @@
--- What follows where no check of a message fails.
+-- What follows where no check of a message fails, and what reading answers.
 use Prim.Native.Nat.{ℕ, zero, suc, _+_, _-_, _<_, _≤_}
 use mathlib.Core.Bool.{Bool, true, false, cond, not, _&&_, _||_}
 use mathlib.Core.List.{List, [], _∷_, _++_}
@@ -7,10 +7,10 @@ use native.Mathlib.Omega.{arith}
 use lib.Dec.{eqb, leb, ltb}
 use lib.ListN.{length, getD, take, drop}
 use Rattle.bytes.specs.Bytes.{number}
-use Rattle.messages.proofs.Judging.{start-le, known-decides, given-decides, none-wrong}
+use Rattle.messages.proofs.Judging.{start-le, known-decides, given-decides, none-wrong, judged-first, judged-value, fault-of-frame, fault-of-writes, no-fault}
 use Rattle.messages.specs.Composing.{outside}
 use Rattle.messages.specs.Layout.{write-start, message-length}
-use Rattle.messages.specs.Reading.{Check, checks, write-checks, first-fault, judged, node-in, setting-in, known, given-before, summary-in, write-in, Faultless}
+use Rattle.messages.specs.Reading.{Check, checks, frame-checks, write-checks, first-fault, judged, header-in, read-answer, node-in, setting-in, known, given-before, summary-in, write-in, Exact-fault, Faultless}
 use Rattle.messages.specs.declared.fault.Fault.{Fault}
 use Rattle.messages.specs.declared.parts.Header.{Header}
 use Rattle.messages.specs.declared.parts.Write.{Write}
@@ -99,11 +99,41 @@ module _ {T : Type 0} (W X : ℕ) (reading : List ℕ → Option T) (suites stam
     different = λ i j low inside same. both-ways (given-before W X m (node-in W X m j) j) (node-parts j inside .1) (given-decides W X m (node-in W X m j) j .1 (i, low, same));
   }
 
--- what a reader learns who got no fault
-pub judged-faultless : {T : Type 0} (W X : ℕ) (reading : List ℕ → Option T) (suites stamp : ℕ) (nodes m : List ℕ) (h : Header) →
-    made (judged (first-fault (checks W X reading suites stamp nodes m)) h) (λ _. Faultless W X reading suites stamp nodes m)
-judged-faultless W X reading suites stamp nodes m h = by (first-fault (checks W X reading suites stamp nodes m)) refl
-  where
-    by : (o : Option Fault) → first-fault (checks W X reading suites stamp nodes m) ≡ o → made (judged o h) (λ _. Faultless W X reading suites stamp nodes m)
-    by None e = faultless W X reading suites stamp nodes m (none-wrong (checks W X reading suites stamp nodes m) e)
-    by (Some f) e = tt
+-- ---- what reading answers
+
+module _ {T : Type 0} (W X : ℕ) (reading : List ℕ → Option T) (suites stamp : ℕ) (nodes m : List ℕ) where
+  abbrev frame : List Check
+  frame = frame-checks W X suites stamp m
+
+  abbrev writes : ℕ → List Check
+  writes n = joined (write-checks W X reading nodes m) (counting 0 n)
+
+  -- what the other two clauses of reading say, of what reading answers
+  pub read-clauses : (r : Result Header Fault) → r ≡ read-answer W X reading suites stamp nodes m →
+      Exact-fault (checks W X reading suites stamp nodes m) r × made r (λ _. Faultless W X reading suites stamp nodes m)
+  read-clauses r is = (
+    subst (Exact-fault (checks W X reading suites stamp nodes m)) (sym is) (judged-first (checks W X reading suites stamp nodes m) (header-in m)),
+    subst (λ a. made a (λ _. Faultless W X reading suites stamp nodes m)) (sym is) (by (first-fault (checks W X reading suites stamp nodes m)) refl),
+  )
+    where
+      by : (o : Option Fault) → first-fault (checks W X reading suites stamp nodes m) ≡ o →
+          made (judged o (header-in m)) (λ _. Faultless W X reading suites stamp nodes m)
+      by None e = faultless W X reading suites stamp nodes m (none-wrong (checks W X reading suites stamp nodes m) e)
+      by (Some f) e = tt
+
+  pub read-frame-fault : (f : Fault) → Err f ≡ judged (first-fault frame) (header-in m) → Err f ≡ read-answer W X reading suites stamp nodes m
+  read-frame-fault = fault-of-frame frame (writes (getD m 5 0)) (header-in m)
+
+  -- the header that the frame gives counts the writes
+  module _ (h : Header) (fine : Ok h ≡ judged (first-fault frame) (header-in m)) where
+    counted : h .writes ≡ getD m 5 0
+    counted = ap (λ k. k .writes) (judged-value (first-fault frame) (header-in m) h fine)
+
+    pub read-writes-fault : (f : Fault) → _≡_ {A = Result (Unit {0}) Fault} (Err f) (judged (first-fault (writes (h .writes))) tt) →
+        Err f ≡ read-answer W X reading suites stamp nodes m
+    read-writes-fault f e =
+        fault-of-writes frame (writes (getD m 5 0)) (header-in m) h f fine (e ∙ ap (λ n. judged (first-fault (writes n)) tt) counted)
+
+    pub read-no-fault : _≡_ {A = Result (Unit {0}) Fault} (Ok tt) (judged (first-fault (writes (h .writes))) tt) →
+        Ok h ≡ read-answer W X reading suites stamp nodes m
+    read-no-fault e = no-fault frame (writes (getD m 5 0)) (header-in m) h fine (e ∙ ap (λ n. judged (first-fault (writes n)) tt) counted)
