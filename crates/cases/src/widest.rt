@@ -1,8 +1,7 @@
 // The widest kinds there can be, made for tests: a setting of 32 bytes with one value, and a summary of 512 bytes that tells
 // only whether anything was read.
 ghost use mathlib.Core.Path.{_≡_};
-ghost use lib.ListN.{drop};
-ghost use Rattle.cases.specs.Widest.{blank-form, all-zero, blank-reading, packed-touched, names-touched};
+ghost use Rattle.cases.specs.Widest.{all-zero, blanks, touched};
 use limits::READS;
 use limits::SETTING_WIDTH;
 use limits::SUMMARY_WIDTH;
@@ -32,13 +31,7 @@ fn are_zero(bytes: &[u8]) -> bool
 pub impl Setting for Blank as BlankSetting {
     const WIDTH: usize = SETTING_WIDTH;
 
-    ghost wide = { 32 };
-
-    ghost start = { record {} };
-
-    ghost form = { blank-form };
-
-    ghost reading = { blank-reading };
+    ghost kind = { blanks };
 
     fn width_of() -> usize {
         Self::WIDTH
@@ -68,11 +61,7 @@ pub impl Setting for Blank as BlankSetting {
 pub impl Summary for Touched as TouchedSummary {
     const WIDTH: usize = SUMMARY_WIDTH;
 
-    ghost wide = { 512 };
-
-    ghost names = { names-touched };
-
-    ghost packed = { packed-touched };
+    ghost kind = { touched };
 
     fn width_of() -> usize {
         Self::WIDTH

@@ -16,6 +16,7 @@ use Rattle.messages.specs.declared.parts.Header.{Header}
 use Rattle.messages.specs.declared.parts.Write.{Write}
 use Rattle.std.proofs.shelf.Edits.{length-between}
 use Rattle.std.proofs.shelf.Tests.{eqb-true, eqb-false, ltb-false, not-false, or-parts, lt-ltb, le-leb, and-from, cond-true, both-ways}
+use Rattle.settings.specs.Kinds.{SettingKind}
 use Rattle.std.specs.Holes.{between}
 use Rattle.std.specs.Iters.{counting}
 use Rattle.std.specs.Joined.{joined}
@@ -26,6 +27,7 @@ use Rattle.std.specs.declared.option.Option.{Option}
 use Rattle.std.specs.declared.option.Option.the-variants.{Some, None}
 use Rattle.std.specs.declared.result.Result.{Result}
 use Rattle.std.specs.declared.result.Result.the-variants.{Ok, Err}
+use Rattle.summaries.specs.Kinds.{SummaryKind}
 
 not-outside : (most n : ℕ) → outside most n ≡ false → (1 ≤ n) × (n ≤ most)
 not-outside most n h =
@@ -58,70 +60,70 @@ there : {T : Type 0} (o : Option T) → isSome o ≡ true → (x : T) × (o ≡ 
 there None h = let z : _≡_ {A = ℕ} 0 1 = cc in absurd (omega arith)
 there (Some x) h = (x, refl)
 
-module _ {T : Type 0} (W X : ℕ) (reading : List ℕ → Option T) (suites stamp : ℕ) (nodes m : List ℕ)
-    (fine : All (λ c. c .0 ≡ false) (checks W X reading suites stamp nodes m)) where
-  count-parts : (outside 16 (getD m 5 0) ≡ false) × (not (eqb (length m) (message-length W X (getD m 5 0))) ≡ false)
+module _ {T : Type 0} (S : SummaryKind) (K : SettingKind T) (suites stamp : ℕ) (nodes m : List ℕ)
+    (fine : All (λ c. c .0 ≡ false) (checks S K suites stamp nodes m)) where
+  count-parts : (outside 16 (getD m 5 0) ≡ false) × (not (eqb (length m) (message-length (S .wide) (K .wide) (getD m 5 0))) ≡ false)
   count-parts = or-parts (outside 16 (getD m 5 0)) _ (fine .1 .1 .1 .1 .0)
 
-  long : length m ≡ message-length W X (getD m 5 0)
+  long : length m ≡ message-length (S .wide) (K .wide) (getD m 5 0)
   long = eqb-true _ _ (not-false _ (count-parts .1))
 
-  write-fine : (i : ℕ) → i < getD m 5 0 → All (λ c. c .0 ≡ false) (write-checks W X reading nodes m i)
+  write-fine : (i : ℕ) → i < getD m 5 0 → All (λ c. c .0 ≡ false) (write-checks (S .wide) K nodes m i)
   write-fine i h =
       let same : 0 + i ≡ i = omega arith in
-      subst (λ k. All (λ c. c .0 ≡ false) (write-checks W X reading nodes m k)) same
-      (all-piece (λ c. c .0 ≡ false) (write-checks W X reading nodes m) 0 (getD m 5 0) i (fine .1 .1 .1 .1 .1 .1) h)
+      subst (λ k. All (λ c. c .0 ≡ false) (write-checks (S .wide) K nodes m k)) same
+      (all-piece (λ c. c .0 ≡ false) (write-checks (S .wide) K nodes m) 0 (getD m 5 0) i (fine .1 .1 .1 .1 .1 .1) h)
 
-  node-parts : (i : ℕ) → i < getD m 5 0 → (not (known nodes (node-in W X m i)) ≡ false) × (given-before W X m (node-in W X m i) i ≡ false)
-  node-parts i h = or-parts (not (known nodes (node-in W X m i))) _ (write-fine i h .0)
+  node-parts : (i : ℕ) → i < getD m 5 0 → (not (known nodes (node-in (S .wide) (K .wide) m i)) ≡ false) × (given-before (S .wide) (K .wide) m (node-in (S .wide) (K .wide) m i) i ≡ false)
+  node-parts i h = or-parts (not (known nodes (node-in (S .wide) (K .wide) m i))) _ (write-fine i h .0)
 
-  write-there : (i : ℕ) → i < getD m 5 0 → (w : Write T) × (write-in W X reading m i ≡ Some w) × (w .node ≡ node-in W X m i) × Has nodes (w .node)
+  write-there : (i : ℕ) → i < getD m 5 0 → (w : Write T) × (write-in S K m i ≡ Some w) × (w .node ≡ node-in (S .wide) (K .wide) m i) × Has nodes (w .node)
   write-there i h =
-      let next = start-le W X (i + 1) (getD m 5 0) (omega arith) in
-      let whole : (ltb i (getD m 5 0) && leb (write-start W X (i + 1)) (length m)) ≡ true =
+      let next = start-le (S .wide) (K .wide) (i + 1) (getD m 5 0) (omega arith) in
+      let whole : (ltb i (getD m 5 0) && leb (write-start (S .wide) (K .wide) (i + 1)) (length m)) ≡ true =
       and-from (ltb i (getD m 5 0)) _ (lt-ltb i (getD m 5 0) h) (le-leb _ (length m) (omega (arith, next, long))) in
-      let setting = there (reading (setting-in W X m i)) (not-false _ (write-fine i h .1 .0)) in (
-        record { node = node-in W X m i; setting = setting .0 },
-        cond-true _ _ _ whole ∙ ap (mapped (λ s. record { node = node-in W X m i; setting = s })) (setting .1),
+      let setting = there (K .reading (setting-in (S .wide) (K .wide) m i)) (not-false _ (write-fine i h .1 .0)) in (
+        record { node = node-in (S .wide) (K .wide) m i; setting = setting .0 },
+        cond-true _ _ _ whole ∙ ap (mapped (λ s. record { node = node-in (S .wide) (K .wide) m i; setting = s })) (setting .1),
         refl,
-        known-decides nodes (node-in W X m i) .0 (not-false _ (node-parts i h .0)),
+        known-decides nodes (node-in (S .wide) (K .wide) m i) .0 (not-false _ (node-parts i h .0)),
       )
 
-  pub faultless : Faultless W X reading suites stamp nodes m
+  pub faultless : Faultless S K suites stamp nodes m
   faultless = record {
     suite-there = not-outside suites (getD m 3 0) (fine .1 .1 .0);
     slot-there = not-outside 4 (getD m 4 0) (fine .1 .1 .1 .0);
     few-writes = not-outside 16 (getD m 5 0) (count-parts .0);
     whole = long;
     snapshot-in = ltb-false stamp (number (between 6 10 m)) (fine .1 .1 .1 .1 .1 .0);
-    summary-whole = length-between m 10 (10 + W) (let low = start-le W X 0 (getD m 5 0) (omega arith) in omega (arith, low, long)) ∙ omega arith;
+    summary-whole = length-between m 10 (10 + (S .wide)) (let low = start-le (S .wide) (K .wide) 0 (getD m 5 0) (omega arith) in omega (arith, low, long)) ∙ omega arith;
     each = write-there;
-    different = λ i j low inside same. both-ways (given-before W X m (node-in W X m j) j) (node-parts j inside .1) (given-decides W X m (node-in W X m j) j .1 (i, low, same));
+    different = λ i j low inside same. both-ways (given-before (S .wide) (K .wide) m (node-in (S .wide) (K .wide) m j) j) (node-parts j inside .1) (given-decides (S .wide) (K .wide) m (node-in (S .wide) (K .wide) m j) j .1 (i, low, same));
   }
 
 -- ---- what reading answers
 
-module _ {T : Type 0} (W X : ℕ) (reading : List ℕ → Option T) (suites stamp : ℕ) (nodes m : List ℕ) where
+module _ {T : Type 0} (S : SummaryKind) (K : SettingKind T) (suites stamp : ℕ) (nodes m : List ℕ) where
   abbrev frame : List Check
-  frame = frame-checks W X suites stamp m
+  frame = frame-checks (S .wide) (K .wide) suites stamp m
 
   abbrev writes : ℕ → List Check
-  writes n = joined (write-checks W X reading nodes m) (counting 0 n)
+  writes n = joined (write-checks (S .wide) K nodes m) (counting 0 n)
 
   -- what the other two clauses of reading say, of what reading answers
-  pub read-clauses : (r : Result Header Fault) → r ≡ read-answer W X reading suites stamp nodes m →
-      Exact-fault (checks W X reading suites stamp nodes m) r × made r (λ _. Faultless W X reading suites stamp nodes m)
+  pub read-clauses : (r : Result Header Fault) → r ≡ read-answer S K suites stamp nodes m →
+      Exact-fault (checks S K suites stamp nodes m) r × made r (λ _. Faultless S K suites stamp nodes m)
   read-clauses r is = (
-    subst (Exact-fault (checks W X reading suites stamp nodes m)) (sym is) (judged-first (checks W X reading suites stamp nodes m) (header-in m)),
-    subst (λ a. made a (λ _. Faultless W X reading suites stamp nodes m)) (sym is) (by (first-fault (checks W X reading suites stamp nodes m)) refl),
+    subst (Exact-fault (checks S K suites stamp nodes m)) (sym is) (judged-first (checks S K suites stamp nodes m) (header-in m)),
+    subst (λ a. made a (λ _. Faultless S K suites stamp nodes m)) (sym is) (by (first-fault (checks S K suites stamp nodes m)) refl),
   )
     where
-      by : (o : Option Fault) → first-fault (checks W X reading suites stamp nodes m) ≡ o →
-          made (judged o (header-in m)) (λ _. Faultless W X reading suites stamp nodes m)
-      by None e = faultless W X reading suites stamp nodes m (none-wrong (checks W X reading suites stamp nodes m) e)
+      by : (o : Option Fault) → first-fault (checks S K suites stamp nodes m) ≡ o →
+          made (judged o (header-in m)) (λ _. Faultless S K suites stamp nodes m)
+      by None e = faultless S K suites stamp nodes m (none-wrong (checks S K suites stamp nodes m) e)
       by (Some f) e = tt
 
-  pub read-frame-fault : (f : Fault) → Err f ≡ judged (first-fault frame) (header-in m) → Err f ≡ read-answer W X reading suites stamp nodes m
+  pub read-frame-fault : (f : Fault) → Err f ≡ judged (first-fault frame) (header-in m) → Err f ≡ read-answer S K suites stamp nodes m
   read-frame-fault = fault-of-frame frame (writes (getD m 5 0)) (header-in m)
 
   -- the header that the frame gives counts the writes
@@ -130,10 +132,10 @@ module _ {T : Type 0} (W X : ℕ) (reading : List ℕ → Option T) (suites stam
     counted = ap (λ k. k .writes) (judged-value (first-fault frame) (header-in m) h fine)
 
     pub read-writes-fault : (f : Fault) → _≡_ {A = Result (Unit {0}) Fault} (Err f) (judged (first-fault (writes (h .writes))) tt) →
-        Err f ≡ read-answer W X reading suites stamp nodes m
+        Err f ≡ read-answer S K suites stamp nodes m
     read-writes-fault f e =
         fault-of-writes frame (writes (getD m 5 0)) (header-in m) h f fine (e ∙ ap (λ n. judged (first-fault (writes n)) tt) counted)
 
     pub read-no-fault : _≡_ {A = Result (Unit {0}) Fault} (Ok tt) (judged (first-fault (writes (h .writes))) tt) →
-        Ok h ≡ read-answer W X reading suites stamp nodes m
+        Ok h ≡ read-answer S K suites stamp nodes m
     read-no-fault e = no-fault frame (writes (getD m 5 0)) (header-in m) h fine (e ∙ ap (λ n. judged (first-fault (writes n)) tt) counted)

@@ -13,6 +13,7 @@ use Rattle.messages.specs.Composing.{write-bytes}
 use Rattle.messages.specs.Layout.{write-width}
 use Rattle.messages.specs.declared.parts.Write.{Write}
 use Rattle.std.proofs.shelf.Lists.{joined-more, take-more, drop-drop, length-append}
+use Rattle.settings.specs.Kinds.{SettingKind}
 use Rattle.std.specs.Joined.{joined}
 
 -- there is room for one record more
@@ -35,23 +36,23 @@ put-record at x j k xs number form ln lf ej ek room =
     ∙ put-two at j k xs number form (ej ∙ sym ln) (ek ∙ sym lf) (omega arith)
     ∙ ap (λ n. take at xs ++ ((number ++ form) ++ drop (at + n) xs)) (ap₂ _+_ ln lf)
 
-pub length-record : {T : Type 0} (form : T → List ℕ) (x : ℕ) → ((s : T) → length (form s) ≡ x) → (w : Write T) → length (write-bytes form w) ≡ write-width x
-length-record form x wide w = length-append (big-endian 8 (w .node)) (form (w .setting)) ∙ ap (λ n. 8 + n) (wide (w .setting))
+pub length-record : {T : Type 0} (K : SettingKind T) → ((s : T) → length (K .form s) ≡ K .wide) → (w : Write T) → length (write-bytes K w) ≡ write-width (K .wide)
+length-record K wide w = length-append (big-endian 8 (w .node)) (K .form (w .setting)) ∙ ap (λ n. 8 + n) (wide (w .setting))
 
-module _ {T : Type 0} (form : T → List ℕ) (k : ℕ) where
+module _ {T : Type 0} (K : SettingKind T) (k : ℕ) where
   -- one record more: what stands up to its end
   pub records-more : (writes : List (Write T)) (i start : ℕ) (w : Write T) (before first after : List ℕ) →
-      i < length writes → w ≡ getD writes i w → length (write-bytes form w) ≡ k → start + k ≤ length before →
-      after ≡ take start before ++ (write-bytes form w ++ drop (start + k) before) →
-      take start before ≡ first ++ joined (write-bytes form) (take i writes) →
-      take (start + k) after ≡ first ++ joined (write-bytes form) (take (i + 1) writes)
+      i < length writes → w ≡ getD writes i w → length (write-bytes K w) ≡ k → start + k ≤ length before →
+      after ≡ take start before ++ (write-bytes K w ++ drop (start + k) before) →
+      take start before ≡ first ++ joined (write-bytes K) (take i writes) →
+      take (start + k) after ≡ first ++ joined (write-bytes K) (take (i + 1) writes)
   records-more writes i start w before first after inside read wide room is front =
       let pushed : take (i + 1) writes ≡ take i writes ++ (w ∷ []) = take-more writes i w inside ∙ ap (λ v. take i writes ++ (v ∷ [])) (sym read) in
       ap (take (start + k)) is
-      ∙ take-replaced start k before (write-bytes form w) wide room
-      ∙ ap (λ xs. xs ++ write-bytes form w) front
-      ∙ joined-more (write-bytes form) first (take i writes) w
-      ∙ ap (λ ws. first ++ joined (write-bytes form) ws) (sym pushed)
+      ∙ take-replaced start k before (write-bytes K w) wide room
+      ∙ ap (λ xs. xs ++ write-bytes K w) front
+      ∙ joined-more (write-bytes K) first (take i writes) w
+      ∙ ap (λ ws. first ++ joined (write-bytes K) ws) (sym pushed)
 
   -- and what stands behind it
   pub rest-more : (start : ℕ) (piece before entry after : List ℕ) → length piece ≡ k → start + k ≤ length before →

@@ -1,5 +1,4 @@
--- Composing a message. W and X are the widths of its summary and of a setting, `packed` is what the summary packs from a list,
--- and `form` a setting's bytes.
+-- Composing a message, with a summary of the kind S and settings of the kind K.
 --
 --   Numbered          a write's node number is one of 64 bits
 --   header-bytes      the first ten bytes
@@ -22,9 +21,11 @@ use Rattle.messages.specs.declared.compose.Misfit.{Misfit}
 use Rattle.messages.specs.declared.compose.Misfit.the-variants.{Suite, Slot, Reads, Writes, Buffer}
 use Rattle.messages.specs.declared.parts.Origin.{Origin}
 use Rattle.messages.specs.declared.parts.Write.{Write}
+use Rattle.settings.specs.Kinds.{SettingKind}
 use Rattle.std.specs.Joined.{joined}
 use Rattle.std.specs.declared.result.Result.{Result}
 use Rattle.std.specs.declared.result.Result.the-variants.{Ok, Err}
+use Rattle.summaries.specs.Kinds.{SummaryKind}
 
 -- the node number of a write is one of 64 bits
 abbrev pub Numbered : {T : Type 0} → Write T → Type 0
@@ -35,34 +36,34 @@ abbrev pub header-bytes : ℕ → Origin → ℕ → List ℕ
 header-bytes n from w = big-endian 2 (n - 2) ++ (version ∷ from .suite ∷ from .slot ∷ w ∷ big-endian 4 (from .snapshot))
 
 -- the bytes of one write: the node's number, then the setting
-abbrev pub write-bytes : {T : Type 0} → (T → List ℕ) → Write T → List ℕ
-write-bytes form w = big-endian 8 (w .node) ++ form (w .setting)
+abbrev pub write-bytes : {T : Type 0} → SettingKind T → Write T → List ℕ
+write-bytes K w = big-endian 8 (w .node) ++ K .form (w .setting)
 
 -- the whole message
-abbrev pub message : {T : Type 0} → ℕ → ℕ → (List ℕ → List ℕ) → (T → List ℕ) → Origin → List ℕ → List (Write T) → List ℕ
-message W X packed form from reads writes =
-    header-bytes (message-length W X (length writes)) from (length writes) ++ (packed reads ++ joined (write-bytes form) writes)
+abbrev pub message : {T : Type 0} → SummaryKind → SettingKind T → Origin → List ℕ → List (Write T) → List ℕ
+message S K from reads writes =
+    header-bytes (message-length (S .wide) (K .wide) (length writes)) from (length writes) ++ (S .packed reads ++ joined (write-bytes K) writes)
 
 -- whether a number is not 1 to `most`
 abbrev pub outside : ℕ → ℕ → Bool
 outside most n = eqb n 0 || ltb most n
 
 -- what composing answers, for so many reads and writes and so many bytes of buffer
-abbrev pub composed : ℕ → ℕ → Origin → ℕ → ℕ → ℕ → Result ℕ Misfit
-composed W X from reads writes room =
+abbrev pub composed : {T : Type 0} → SummaryKind → SettingKind T → Origin → ℕ → ℕ → ℕ → Result ℕ Misfit
+composed S K from reads writes room =
     cond (outside most-suites (from .suite)) (Err Suite)
     (cond (outside slots-each (from .slot)) (Err Slot)
     (cond (ltb most-reads reads) (Err Reads)
     (cond (outside most-writes writes) (Err Writes)
-    (cond (ltb room (message-length W X writes)) (Err Buffer) (Ok (message-length W X writes))))))
+    (cond (ltb room (message-length (S .wide) (K .wide) writes)) (Err Buffer) (Ok (message-length (S .wide) (K .wide) writes))))))
 
 -- what holds where a message of n bytes is composed
-pub record Composes (W X : ℕ) (from : Origin) (reads writes room n : ℕ) : Type 0 where
+pub record Composes {T : Type 0} (S : SummaryKind) (K : SettingKind T) (from : Origin) (reads writes room n : ℕ) : Type 0 where
   pub suite-there : (1 ≤ from .suite) × (from .suite ≤ most-suites)
   pub slot-there : (1 ≤ from .slot) × (from .slot ≤ slots-each)
   pub few-reads : reads ≤ most-reads
   pub few-writes : (1 ≤ writes) × (writes ≤ most-writes)
-  pub length-is : n ≡ message-length W X writes
+  pub length-is : n ≡ message-length (S .wide) (K .wide) writes
   pub enough : n ≤ room
   pub short : n ≤ longest-message
 

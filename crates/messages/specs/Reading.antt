@@ -1,5 +1,5 @@
--- Reading a message. W and X are the widths of its summary and of a setting, `reading` is the kind's reading, and the reader
--- knows the number of suites, its own stamp and the session's nodes.
+-- Reading a message, with a summary of the kind S and settings of the kind K, whose widths are W and X. The reader knows the
+-- number of suites, its own stamp and the session's nodes.
 --
 --   Check               a check: whether it fails, and the fault that it then is
 --   wrong-length        whether the message is too short or its length field wrong
@@ -43,6 +43,7 @@ use Rattle.messages.specs.declared.fault.Fault.{Fault}
 use Rattle.messages.specs.declared.parts.Header.{Header}
 use Rattle.messages.specs.declared.parts.Write.{Write}
 use Rattle.messages.specs.declared.read.RawHeader.{RawHeader}
+use Rattle.settings.specs.Kinds.{SettingKind}
 use Rattle.std.specs.Holes.{between}
 use Rattle.std.specs.Iters.{counting}
 use Rattle.std.specs.Joined.{joined}
@@ -53,6 +54,7 @@ use Rattle.std.specs.declared.option.Option.{Option}
 use Rattle.std.specs.declared.option.Option.the-variants.{Some, None}
 use Rattle.std.specs.declared.result.Result.{Result}
 use Rattle.std.specs.declared.result.Result.the-variants.{Ok, Err}
+use Rattle.summaries.specs.Kinds.{SummaryKind}
 
 -- a check: whether it fails, and the fault that it then is
 abbrev pub Check : Type 0
@@ -115,17 +117,17 @@ abbrev pub node-check : ℕ → ℕ → List ℕ → List ℕ → ℕ → Check
 node-check W X nodes m i = (not (known nodes (node-in W X m i)) || given-before W X m (node-in W X m i) i, fault Node (write-start W X i))
 
 -- the setting of write i reads
-abbrev pub setting-check : {T : Type 0} → ℕ → ℕ → (List ℕ → Option T) → List ℕ → ℕ → Check
-setting-check W X reading m i = (not (isSome (reading (setting-in W X m i))), fault Setting (setting-start W X i))
+abbrev pub setting-check : {T : Type 0} → ℕ → SettingKind T → List ℕ → ℕ → Check
+setting-check W K m i = (not (isSome (K .reading (setting-in W (K .wide) m i))), fault Setting (setting-start W (K .wide) i))
 
 -- the checks of write i, in their order
-abbrev pub write-checks : {T : Type 0} → ℕ → ℕ → (List ℕ → Option T) → List ℕ → List ℕ → ℕ → List Check
-write-checks W X reading nodes m i = node-check W X nodes m i ∷ setting-check W X reading m i ∷ []
+abbrev pub write-checks : {T : Type 0} → ℕ → SettingKind T → List ℕ → List ℕ → ℕ → List Check
+write-checks W K nodes m i = node-check W (K .wide) nodes m i ∷ setting-check W K m i ∷ []
 
 -- all checks of a message, in their order: the frame's, then those of one write after the other
-abbrev pub checks : {T : Type 0} → ℕ → ℕ → (List ℕ → Option T) → ℕ → ℕ → List ℕ → List ℕ → List Check
-checks W X reading suites stamp nodes m =
-    frame-checks W X suites stamp m ++ joined (write-checks W X reading nodes m) (counting 0 (getD m 5 0))
+abbrev pub checks : {T : Type 0} → SummaryKind → SettingKind T → ℕ → ℕ → List ℕ → List ℕ → List Check
+checks S K suites stamp nodes m =
+    frame-checks (S .wide) (K .wide) suites stamp m ++ joined (write-checks (S .wide) K nodes m) (counting 0 (getD m 5 0))
 
 -- the fault of the first check that fails
 abbrev pub first-fault : List Check → Option Fault
@@ -145,18 +147,18 @@ header-in m = record {
 }
 
 -- what reading answers: the first fault or, without one, what the header says
-abbrev pub read-answer : {T : Type 0} → ℕ → ℕ → (List ℕ → Option T) → ℕ → ℕ → List ℕ → List ℕ → Result Header Fault
-read-answer W X reading suites stamp nodes m = judged (first-fault (checks W X reading suites stamp nodes m)) (header-in m)
+abbrev pub read-answer : {T : Type 0} → SummaryKind → SettingKind T → ℕ → ℕ → List ℕ → List ℕ → Result Header Fault
+read-answer S K suites stamp nodes m = judged (first-fault (checks S K suites stamp nodes m)) (header-in m)
 
 -- the bytes of the summary: W from byte 10 on, or as many as there are
 abbrev pub summary-in : ℕ → List ℕ → List ℕ
 summary-in W m = between header-width (header-width + W) m
 
 -- write i, if the header counts it, the message holds it whole, and its setting reads
-abbrev pub write-in : {T : Type 0} → ℕ → ℕ → (List ℕ → Option T) → List ℕ → ℕ → Option (Write T)
-write-in W X reading m i =
-    cond (ltb i (getD m 5 0) && leb (write-start W X (i + 1)) (length m))
-    (mapped (λ s. record { node = node-in W X m i; setting = s }) (reading (setting-in W X m i)))
+abbrev pub write-in : {T : Type 0} → SummaryKind → SettingKind T → List ℕ → ℕ → Option (Write T)
+write-in S K m i =
+    cond (ltb i (getD m 5 0) && leb (write-start (S .wide) (K .wide) (i + 1)) (length m))
+    (mapped (λ s. record { node = node-in (S .wide) (K .wide) m i; setting = s }) (K .reading (setting-in (S .wide) (K .wide) m i)))
     None
 
 -- without a fault no check fails, and a fault is that of a failing check before which none fails
@@ -165,12 +167,12 @@ Exact-fault cs (Ok _) = All (λ c. c .0 ≡ false) cs
 Exact-fault cs (Err f) = (k : ℕ) × (k < length cs) × At (λ c. c ≡ (true, f)) cs k × ((j : ℕ) → j < k → At (λ c. c .0 ≡ false) cs j)
 
 -- what holds of a message without a fault
-pub record Faultless {T : Type 0} (W X : ℕ) (reading : List ℕ → Option T) (suites stamp : ℕ) (nodes m : List ℕ) : Type 0 where
+pub record Faultless {T : Type 0} (S : SummaryKind) (K : SettingKind T) (suites stamp : ℕ) (nodes m : List ℕ) : Type 0 where
   pub suite-there : (1 ≤ getD m 3 0) × (getD m 3 0 ≤ suites)
   pub slot-there : (1 ≤ getD m 4 0) × (getD m 4 0 ≤ slots-each)
   pub few-writes : (1 ≤ getD m 5 0) × (getD m 5 0 ≤ most-writes)
-  pub whole : length m ≡ message-length W X (getD m 5 0)
+  pub whole : length m ≡ message-length (S .wide) (K .wide) (getD m 5 0)
   pub snapshot-in : number (between 6 10 m) ≤ stamp
-  pub summary-whole : length (summary-in W m) ≡ W
-  pub each : (i : ℕ) → i < getD m 5 0 → (w : Write T) × (write-in W X reading m i ≡ Some w) × (w .node ≡ node-in W X m i) × Has nodes (w .node)
-  pub different : (i j : ℕ) → i < j → j < getD m 5 0 → node-in W X m i ≡ node-in W X m j → ⊥
+  pub summary-whole : length (summary-in (S .wide) m) ≡ S .wide
+  pub each : (i : ℕ) → i < getD m 5 0 → (w : Write T) × (write-in S K m i ≡ Some w) × (w .node ≡ node-in (S .wide) (K .wide) m i) × Has nodes (w .node)
+  pub different : (i j : ℕ) → i < j → j < getD m 5 0 → node-in (S .wide) (K .wide) m i ≡ node-in (S .wide) (K .wide) m j → ⊥

@@ -13,21 +13,21 @@ use Rattle.messages.specs.Reading.{header-in, read-answer, summary-in, write-i
 use Rattle.messages.specs.declared.parts.Header.{Header}
 use Rattle.messages.specs.declared.parts.Origin.{Origin}
 use Rattle.messages.specs.declared.parts.Write.{Write}
+use Rattle.settings.specs.Kinds.{SettingKind}
 use Rattle.std.specs.shelf.Lists.{All, Has}
-use Rattle.std.specs.declared.option.Option.{Option}
 use Rattle.std.specs.declared.option.Option.the-variants.{Some}
 use Rattle.std.specs.declared.result.Result.the-variants.{Ok}
+use Rattle.summaries.specs.Kinds.{SummaryKind}
 
 -- the header of a message from `from` with so many writes
 abbrev pub header-with : Origin → ℕ → Header
 header-with from writes = record { origin = from; writes = writes }
 
 -- the message m gives all its fields back
-pub record Returned {T : Type 0} (W X : ℕ) (packed : List ℕ → List ℕ) (reading : List ℕ → Option T) (from : Origin) (reads : List ℕ)
-    (writes : List (Write T)) (m : List ℕ) : Type 0 where
+pub record Returned {T : Type 0} (S : SummaryKind) (K : SettingKind T) (from : Origin) (reads : List ℕ) (writes : List (Write T)) (m : List ℕ) : Type 0 where
   pub header : header-in m ≡ header-with from (length writes)
-  pub summary : summary-in W m ≡ packed reads
-  pub each : (i : ℕ) (w : Write T) → i < length writes → write-in W X reading m i ≡ Some (getD writes i w)
+  pub summary : summary-in (S .wide) m ≡ S .packed reads
+  pub each : (i : ℕ) (w : Write T) → i < length writes → write-in S K m i ≡ Some (getD writes i w)
 
 -- no number of the list stands twice
 abbrev pub Different : List ℕ → Type 0
@@ -42,8 +42,7 @@ pub record Fitting (suites stamp : ℕ) (nodes : List ℕ) (from : Origin) (writ
   pub different : Different written
 
 -- the message m gives its fields back, and has no fault for a reader that it fits
-pub record Returns {T : Type 0} (W X : ℕ) (packed : List ℕ → List ℕ) (reading : List ℕ → Option T) (from : Origin) (reads : List ℕ)
-    (writes : List (Write T)) (m : List ℕ) : Type 0 where
-  pub fields : Returned W X packed reading from reads writes m
+pub record Returns {T : Type 0} (S : SummaryKind) (K : SettingKind T) (from : Origin) (reads : List ℕ) (writes : List (Write T)) (m : List ℕ) : Type 0 where
+  pub fields : Returned S K from reads writes m
   pub faultless : (suites stamp : ℕ) (nodes : List ℕ) → Fitting suites stamp nodes from (map (λ w. w .node) writes) →
-      read-answer W X reading suites stamp nodes m ≡ Ok (header-with from (length writes))
+      read-answer S K suites stamp nodes m ≡ Ok (header-with from (length writes))

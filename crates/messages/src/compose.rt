@@ -46,8 +46,8 @@ fn measure<T: Setting, S: Summary>(
     writes: usize,
     room: usize,
 ) -> Result<usize, Misfit>
-    ensures answer { λ r. ⌜ r ≡ composed (S·Summary .wide) (T·Setting .wide) from reads writes room ⌝ }
-    ensures facts { λ r. ⌜ made r (λ n. Composes (S·Summary .wide) (T·Setting .wide) from reads writes room n) ⌝ }
+    ensures answer { λ r. ⌜ r ≡ composed (S·Summary .kind) (T·Setting .kind) from reads writes room ⌝ }
+    ensures facts { λ r. ⌜ made r (λ n. Composes (S·Summary .kind) (T·Setting .kind) from reads writes room n) ⌝ }
 {
     if from.suite == 0 || from.suite as usize > SUITES {
         return Err(Misfit::Suite);
@@ -99,9 +99,9 @@ fn put_node(node: u64, region: &mut [u8])
 
 // Writes one record over the bytes from `at` on.
 fn put_write<T: Setting>(write: &Write<T>, buffer: &mut [u8], at: usize)
-    requires { ⌜ at + write-width (T·Setting .wide) ≤ length (now buffer) ⌝ }
+    requires { ⌜ at + write-width (T·Setting .kind .wide) ≤ length (now buffer) ⌝ }
     ensures number { λ _. ⌜ Numbered (now (write .entry)) ⌝ }
-    ensures buffer { λ _. ⌜ now (buffer .exit) ≡ take at (now (buffer .entry)) ++ (write-bytes (T·Setting .form) (now (write .entry)) ++ drop (at + write-width (T·Setting .wide)) (now (buffer .entry))) ⌝ }
+    ensures buffer { λ _. ⌜ now (buffer .exit) ≡ take at (now (buffer .entry)) ++ (write-bytes (T·Setting .kind) (now (write .entry)) ++ drop (at + write-width (T·Setting .kind .wide)) (now (buffer .entry))) ⌝ }
 {
     let setting = at + NODE_WIDTH;
     put_node(write.node, &mut buffer[at..setting]);
@@ -112,10 +112,10 @@ fn put_write<T: Setting>(write: &Write<T>, buffer: &mut [u8], at: usize)
 
 // Writes the records one after the other from `at` on.
 fn put_writes<T: Setting>(writes: &[Write<T>], buffer: &mut [u8], at: usize)
-    requires { ⌜ at + length (now writes) * write-width (T·Setting .wide) ≤ length (now buffer) ⌝ }
+    requires { ⌜ at + length (now writes) * write-width (T·Setting .kind .wide) ≤ length (now buffer) ⌝ }
     ensures numbers { λ _. ⌜ All Numbered (now (writes .entry)) ⌝ }
-    ensures front { λ _. ⌜ take (at + length (now (writes .entry)) * write-width (T·Setting .wide)) (now (buffer .exit)) ≡ take at (now (buffer .entry)) ++ joined (write-bytes (T·Setting .form)) (now (writes .entry)) ⌝ }
-    ensures rest { λ _. ⌜ drop (at + length (now (writes .entry)) * write-width (T·Setting .wide)) (now (buffer .exit)) ≡ drop (at + length (now (writes .entry)) * write-width (T·Setting .wide)) (now (buffer .entry)) ⌝ }
+    ensures front { λ _. ⌜ take (at + length (now (writes .entry)) * write-width (T·Setting .kind .wide)) (now (buffer .exit)) ≡ take at (now (buffer .entry)) ++ joined (write-bytes (T·Setting .kind)) (now (writes .entry)) ⌝ }
+    ensures rest { λ _. ⌜ drop (at + length (now (writes .entry)) * write-width (T·Setting .kind .wide)) (now (buffer .exit)) ≡ drop (at + length (now (writes .entry)) * write-width (T·Setting .kind .wide)) (now (buffer .entry)) ⌝ }
 {
     let width = NODE_WIDTH + T::width_of();
     let mut start = at;
@@ -132,10 +132,10 @@ pub fn compose<T: Setting, S: Summary>(
     writes: &[Write<T>],
     buffer: &mut [u8],
 ) -> Result<usize, Misfit>
-    ensures answer { λ r. ⌜ r ≡ composed (S·Summary .wide) (T·Setting .wide) from (length (now (reads .entry))) (length (now (writes .entry))) (length (now (buffer .entry))) ⌝ }
-    ensures buffer { λ r. ⌜ now (buffer .exit) ≡ buffer-after r (message (S·Summary .wide) (T·Setting .wide) (S·Summary .packed) (T·Setting .form) from (now (reads .entry)) (now (writes .entry))) (now (buffer .entry)) ⌝ }
-    ensures facts { λ r. ⌜ made r (λ n. Composes (S·Summary .wide) (T·Setting .wide) from (length (now (reads .entry))) (length (now (writes .entry))) (length (now (buffer .entry))) n) ⌝ }
-    ensures law { λ r. ⌜ made r (λ n. Returns (S·Summary .wide) (T·Setting .wide) (S·Summary .packed) (T·Setting .reading) from (now (reads .entry)) (now (writes .entry)) (take n (now (buffer .exit)))) ⌝ }
+    ensures answer { λ r. ⌜ r ≡ composed (S·Summary .kind) (T·Setting .kind) from (length (now (reads .entry))) (length (now (writes .entry))) (length (now (buffer .entry))) ⌝ }
+    ensures buffer { λ r. ⌜ now (buffer .exit) ≡ buffer-after r (message (S·Summary .kind) (T·Setting .kind) from (now (reads .entry)) (now (writes .entry))) (now (buffer .entry)) ⌝ }
+    ensures facts { λ r. ⌜ made r (λ n. Composes (S·Summary .kind) (T·Setting .kind) from (length (now (reads .entry))) (length (now (writes .entry))) (length (now (buffer .entry))) n) ⌝ }
+    ensures law { λ r. ⌜ made r (λ n. Returns (S·Summary .kind) (T·Setting .kind) from (now (reads .entry)) (now (writes .entry)) (take n (now (buffer .exit)))) ⌝ }
 {
     let length = measure::<T, S>(from, reads.len(), writes.len(), buffer.len())?;
     let summary_end = HEADER + S::width_of();

@@ -74,7 +74,7 @@ fn take_apart(message: &[u8]) -> Option<RawHeader>
 
 // The header without a fault of the frame, or the first such fault.
 fn frame<T: Setting, S: Summary>(message: &[u8], suites: usize, stamp: u32) -> Result<Header, Fault>
-    ensures { λ r. ⌜ r ≡ judged (first-fault (spec.frame-checks (S·Summary .wide) (T·Setting .wide) suites stamp (now (message .entry)))) (spec.header-in (now (message .entry))) ⌝ }
+    ensures { λ r. ⌜ r ≡ judged (first-fault (spec.frame-checks (S·Summary .kind .wide) (T·Setting .kind .wide) suites stamp (now (message .entry)))) (spec.header-in (now (message .entry))) ⌝ }
 {
     let Some(head) = take_apart(message) else {
         return Err(fault(Cause::Length, 0));
@@ -121,8 +121,8 @@ fn is_known(nodes: &[u64], node: u64) -> bool
 // The node number of write i.
 fn node_of<T: Setting, S: Summary>(message: &[u8], i: usize) -> u64
     requires { ⌜ i < 255 ⌝ }
-    requires { ⌜ write-start (S·Summary .wide) (T·Setting .wide) i + 8 ≤ length (now message) ⌝ }
-    ensures { λ r. ⌜ r ≡ spec.node-in (S·Summary .wide) (T·Setting .wide) (now (message .entry)) i ⌝ }
+    requires { ⌜ write-start (S·Summary .kind .wide) (T·Setting .kind .wide) i + 8 ≤ length (now message) ⌝ }
+    ensures { λ r. ⌜ r ≡ spec.node-in (S·Summary .kind .wide) (T·Setting .kind .wide) (now (message .entry)) i ⌝ }
 {
     u64_at(message, write_start::<T, S>(i)).unwrap_or(0)
 }
@@ -130,8 +130,8 @@ fn node_of<T: Setting, S: Summary>(message: &[u8], i: usize) -> u64
 // Whether one of the first i writes has the node.
 fn is_given<T: Setting, S: Summary>(message: &[u8], node: u64, i: usize) -> bool
     requires { ⌜ i < 255 ⌝ }
-    requires { ⌜ write-start (S·Summary .wide) (T·Setting .wide) i ≤ length (now message) ⌝ }
-    ensures { λ r. ⌜ r ≡ spec.given-before (S·Summary .wide) (T·Setting .wide) (now (message .entry)) node i ⌝ }
+    requires { ⌜ write-start (S·Summary .kind .wide) (T·Setting .kind .wide) i ≤ length (now message) ⌝ }
+    ensures { λ r. ⌜ r ≡ spec.given-before (S·Summary .kind .wide) (T·Setting .kind .wide) (now (message .entry)) node i ⌝ }
 {
     for j in 0..i {
         if node_of::<T, S>(message, j) == node {
@@ -144,8 +144,8 @@ fn is_given<T: Setting, S: Summary>(message: &[u8], node: u64, i: usize) -> bool
 // The setting of write i, if its bytes are one's form.
 fn setting_of<T: Setting, S: Summary>(message: &[u8], i: usize) -> Option<T>
     requires { ⌜ i < 255 ⌝ }
-    requires { ⌜ write-start (S·Summary .wide) (T·Setting .wide) (i + 1) ≤ length (now message) ⌝ }
-    ensures { λ r. ⌜ r ≡ T·Setting .reading (spec.setting-in (S·Summary .wide) (T·Setting .wide) (now (message .entry)) i) ⌝ }
+    requires { ⌜ write-start (S·Summary .kind .wide) (T·Setting .kind .wide) (i + 1) ≤ length (now message) ⌝ }
+    ensures { λ r. ⌜ r ≡ T·Setting .kind .reading (spec.setting-in (S·Summary .kind .wide) (T·Setting .kind .wide) (now (message .entry)) i) ⌝ }
 {
     let at = write_start::<T, S>(i) + NODE_WIDTH;
     T::read(&message[at..at + T::width_of()])
@@ -154,8 +154,8 @@ fn setting_of<T: Setting, S: Summary>(message: &[u8], i: usize) -> Option<T>
 // The first fault of write i, if it has one.
 fn check_write<T: Setting, S: Summary>(message: &[u8], nodes: &[u64], i: usize) -> Result<(), Fault>
     requires { ⌜ i < 16 ⌝ }
-    requires { ⌜ write-start (S·Summary .wide) (T·Setting .wide) (i + 1) ≤ length (now message) ⌝ }
-    ensures { λ r. ⌜ r ≡ judged (first-fault (spec.write-checks (S·Summary .wide) (T·Setting .wide) (T·Setting .reading) (now (nodes .entry)) (now (message .entry)) i)) tt ⌝ }
+    requires { ⌜ write-start (S·Summary .kind .wide) (T·Setting .kind .wide) (i + 1) ≤ length (now message) ⌝ }
+    ensures { λ r. ⌜ r ≡ judged (first-fault (spec.write-checks (S·Summary .kind .wide) (T·Setting .kind) (now (nodes .entry)) (now (message .entry)) i)) tt ⌝ }
 {
     let node = node_of::<T, S>(message, i);
     if !is_known(nodes, node) || is_given::<T, S>(message, node, i) {
@@ -174,8 +174,8 @@ fn check_writes<T: Setting, S: Summary>(
     writes: usize,
 ) -> Result<(), Fault>
     requires { ⌜ writes ≤ 16 ⌝ }
-    requires { ⌜ write-start (S·Summary .wide) (T·Setting .wide) writes ≤ length (now message) ⌝ }
-    ensures { λ r. ⌜ r ≡ judged (first-fault (joined (spec.write-checks (S·Summary .wide) (T·Setting .wide) (T·Setting .reading) (now (nodes .entry)) (now (message .entry))) (counting 0 writes))) tt ⌝ }
+    requires { ⌜ write-start (S·Summary .kind .wide) (T·Setting .kind .wide) writes ≤ length (now message) ⌝ }
+    ensures { λ r. ⌜ r ≡ judged (first-fault (joined (spec.write-checks (S·Summary .kind .wide) (T·Setting .kind) (now (nodes .entry)) (now (message .entry))) (counting 0 writes))) tt ⌝ }
 {
     for i in 0..writes {
         check_write::<T, S>(message, nodes, i)?;
@@ -191,9 +191,9 @@ pub fn read<T: Setting, S: Summary>(
     stamp: u32,
     nodes: &[u64],
 ) -> Result<Header, Fault>
-    ensures answer { λ r. ⌜ r ≡ spec.read-answer (S·Summary .wide) (T·Setting .wide) (T·Setting .reading) suites stamp (now (nodes .entry)) (now (message .entry)) ⌝ }
-    ensures first { λ r. ⌜ spec.Exact-fault (spec.checks (S·Summary .wide) (T·Setting .wide) (T·Setting .reading) suites stamp (now (nodes .entry)) (now (message .entry))) r ⌝ }
-    ensures whole { λ r. ⌜ made r (λ _. spec.Faultless (S·Summary .wide) (T·Setting .wide) (T·Setting .reading) suites stamp (now (nodes .entry)) (now (message .entry))) ⌝ }
+    ensures answer { λ r. ⌜ r ≡ spec.read-answer (S·Summary .kind) (T·Setting .kind) suites stamp (now (nodes .entry)) (now (message .entry)) ⌝ }
+    ensures first { λ r. ⌜ spec.Exact-fault (spec.checks (S·Summary .kind) (T·Setting .kind) suites stamp (now (nodes .entry)) (now (message .entry))) r ⌝ }
+    ensures whole { λ r. ⌜ made r (λ _. spec.Faultless (S·Summary .kind) (T·Setting .kind) suites stamp (now (nodes .entry)) (now (message .entry))) ⌝ }
 {
     let header = frame::<T, S>(message, suites, stamp)?;
     check_writes::<T, S>(message, nodes, header.writes as usize)?;
@@ -202,7 +202,7 @@ pub fn read<T: Setting, S: Summary>(
 
 /// The bytes of a message's summary: as many as the summary is wide, from byte 10 on, or as many as there are.
 pub fn summary_of<S: Summary>(message: &[u8]) -> &[u8]
-    ensures { λ r. ⌜ now r ≡ spec.summary-in (S·Summary .wide) (now (message .entry)) ⌝ }
+    ensures { λ r. ⌜ now r ≡ spec.summary-in (S·Summary .kind .wide) (now (message .entry)) ⌝ }
 {
     let from = message.len().min(HEADER);
     let to = message.len().min(HEADER + S::width_of());
@@ -211,7 +211,7 @@ pub fn summary_of<S: Summary>(message: &[u8]) -> &[u8]
 
 /// Write i of a message, counted from 0, if its header counts it, it is there whole, and its setting reads.
 pub fn write_of<T: Setting, S: Summary>(message: &[u8], i: usize) -> Option<Write<T>>
-    ensures { λ r. ⌜ r ≡ spec.write-in (S·Summary .wide) (T·Setting .wide) (T·Setting .reading) (now (message .entry)) i ⌝ }
+    ensures { λ r. ⌜ r ≡ spec.write-in (S·Summary .kind) (T·Setting .kind) (now (message .entry)) i ⌝ }
 {
     if message.len() < HEADER
         || i >= message[5] as usize

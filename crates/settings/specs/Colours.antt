@@ -5,6 +5,7 @@
 --   starting-colour             the colour that a node starts with
 --   colour-form       the twelve bytes of a colour
 --   colour-reading    the colour that bytes stand for
+--   colours           the kind
 use Prim.Native.Nat.{ℕ, _-_, _<_, _^_, suc}
 use mathlib.Core.Bool.{Bool, true, false, cond}
 use mathlib.Core.List.{List, _++_}
@@ -17,6 +18,7 @@ use lib.Signed.{mag}
 use mir.Syntax.{w32}
 use mir.Val.{toZ, ofZ, sel}
 use Rattle.bytes.specs.Bytes.{big-endian, number}
+use Rattle.settings.specs.Kinds.{SettingKind}
 use Rattle.settings.specs.declared.colour.Colour.{Colour}
 use Rattle.std.proofs.shelf.Tests.{ltb-true, ltb-false}
 use Rattle.std.specs.Holes.{between}
@@ -60,3 +62,7 @@ colour-reading bs =
     cond (eqb (length bs) 12)
     (Some (colour-of (number (between 0 4 bs)) (number (between 4 8 bs)) (number (between 8 12 bs))))
     None
+
+-- colours as a kind of setting
+abbrev pub colours : SettingKind Colour
+colours = record { wide = 12; start = starting-colour; form = colour-form; reading = colour-reading }

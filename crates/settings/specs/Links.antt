@@ -4,6 +4,7 @@
 --   no-node         the link that a node starts with
 --   link-form       the nine bytes of a link
 --   link-reading    the link that bytes stand for
+--   links           the kind
 use Prim.Native.Nat.{ℕ, _%_, _^_}
 use mathlib.Core.Bool.{cond, _&&_}
 use mathlib.Core.List.{List, _∷_}
@@ -11,6 +12,7 @@ use native.Mathlib.Nat.{mod-lt}
 use lib.Dec.{eqb, lit<}
 use lib.ListN.{length, getD}
 use Rattle.bytes.specs.Bytes.{big-endian, number}
+use Rattle.settings.specs.Kinds.{SettingKind}
 use Rattle.settings.specs.declared.link.Link.{Link}
 use Rattle.settings.specs.declared.link.Link.the-variants.{NoNode, To}
 use Rattle.settings.specs.declared.link.NodeNumber.{NodeNumber}
@@ -39,3 +41,7 @@ link-reading bs =
     (Some NoNode)
     (cond (eqb (getD bs 0 0) 1) (Some (To (node-of (number (between 1 9 bs))))) None))
     None
+
+-- links as a kind of setting
+abbrev pub links : SettingKind Link
+links = record { wide = 9; start = no-node; form = link-form; reading = link-reading }

@@ -1,5 +1,5 @@
 // Colours as a kind of setting: three numbers of four bytes each.
-ghost use Rattle.settings.specs.Colours.{starting-colour, colour-form, colour-reading};
+ghost use Rattle.settings.specs.Colours.{colours};
 use crate::colour::Colour;
 use crate::kind::Setting;
 use crate::kind::WrongWidth;
@@ -8,13 +8,7 @@ use bytes::u32_at;
 pub impl Setting for Colour as ColourSetting {
     const WIDTH: usize = 12;
 
-    ghost wide = { 12 };
-
-    ghost start = { starting-colour };
-
-    ghost form = { colour-form };
-
-    ghost reading = { colour-reading };
+    ghost kind = { colours };
 
     fn width_of() -> usize {
         Self::WIDTH

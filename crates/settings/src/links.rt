@@ -1,5 +1,5 @@
 // Links as a kind of setting: a byte that says whether there is a node, and eight bytes of its number.
-ghost use Rattle.settings.specs.Links.{no-node, link-form, link-reading};
+ghost use Rattle.settings.specs.Links.{links};
 use crate::kind::Setting;
 use crate::kind::WrongWidth;
 use crate::link::Link;
@@ -9,13 +9,7 @@ use bytes::u64_at;
 pub impl Setting for Link as LinkSetting {
     const WIDTH: usize = 9;
 
-    ghost wide = { 9 };
-
-    ghost start = { no-node };
-
-    ghost form = { link-form };
-
-    ghost reading = { link-reading };
+    ghost kind = { links };
 
     fn width_of() -> usize {
         Self::WIDTH

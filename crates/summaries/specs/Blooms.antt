@@ -9,6 +9,7 @@
 --   packed-bloom    the bytes packed from a list
 --   all-set         whether the first positions of a node are set
 --   names-bloom     whether the bytes name a node
+--   bloom           the kind
 --   Position        a number is one of a node's twelve positions
 --   Sets-exactly         packing sets exactly the positions of the listed nodes
 use Prim.Native.Nat.{ℕ, zero, suc, _+_, _*_, _/_, _%_, _^_, _<_}
@@ -22,6 +23,7 @@ use Rattle.std.specs.Iters.{folded}
 use Rattle.std.specs.Orderings.{Decides}
 use Rattle.std.specs.Places.{At}
 use Rattle.summaries.specs.Hashes.{murmur2}
+use Rattle.summaries.specs.Kinds.{SummaryKind}
 
 -- 512 bits
 abbrev pub bloom-width : ℕ
@@ -60,6 +62,10 @@ all-set bs n (suc i) = has-bit (position n i) bs && all-set bs n i
 -- whether the bytes name the node n: all its positions are set
 abbrev pub names-bloom : List ℕ → ℕ → Bool
 names-bloom bs n = all-set bs n hashes
+
+-- the Bloom summary as a kind of summary
+abbrev pub bloom : SummaryKind
+bloom = record { wide = bloom-width; names = names-bloom; packed = packed-bloom }
 
 -- p is one of the twelve positions of the node n
 abbrev pub Position : ℕ → ℕ → Type 0

@@ -6,6 +6,7 @@
 --   number-in       the number that stands at a place of the list
 --   among           whether a node is one of the first c numbers
 --   names-exact     whether the bytes name a node
+--   exact-list      the kind
 --   Names-exactly         the bytes name exactly the listed nodes
 use Prim.Native.Nat.{ℕ, zero, suc, _+_, _-_, _*_, min}
 use mathlib.Core.Bool.{Bool, false, _||_}
@@ -18,6 +19,7 @@ use Rattle.std.specs.Holes.{between}
 use Rattle.std.specs.Joined.{joined}
 use Rattle.std.specs.Orderings.{Decides}
 use Rattle.std.specs.shelf.Lists.{Has}
+use Rattle.summaries.specs.Kinds.{SummaryKind}
 
 -- one byte, and 32 numbers of eight
 abbrev pub exact-width : ℕ
@@ -43,6 +45,10 @@ among bs n (suc c) = eqb (number-in bs c) n || among bs n c
 -- whether the bytes name the node: it is one of as many numbers as byte 0 says, but of 32 at most
 abbrev pub names-exact : List ℕ → ℕ → Bool
 names-exact bs n = among bs n (min (getD bs 0 0) most-reads)
+
+-- the exact list as a kind of summary
+abbrev pub exact-list : SummaryKind
+exact-list = record { wide = exact-width; names = names-exact; packed = packed-exact }
 
 -- the bytes name exactly the listed nodes
 abbrev pub Names-exactly : List ℕ → List ℕ → Type 0

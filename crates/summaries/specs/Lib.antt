@@ -1,3 +1,4 @@
+pub mod Kinds
 pub mod Calls
 pub mod ExactLists
 pub mod Hashes

@@ -2,7 +2,7 @@
 ghost use mathlib.Core.Path.{_≡_};
 ghost use Prim.Native.Nat.{_+_, _*_, _%_, _<_};
 ghost use lib.ListN.{length};
-ghost use Rattle.summaries.specs.Blooms.{bloom-width, hashes, with-bit, has-bit, marked, packed-bloom, names-bloom, Sets-exactly};
+ghost use Rattle.summaries.specs.Blooms.{bloom-width, hashes, with-bit, has-bit, marked, bloom, Sets-exactly};
 ghost use Rattle.std.specs.Vec.{made};
 ghost use Rattle.summaries.specs.Calls.{pack-answer, pack-region};
 use crate::kind::Summary;
@@ -56,19 +56,15 @@ fn mark(node: u64, region: &mut [u8])
 pub impl Summary for Bloom as BloomSummary {
     const WIDTH: usize = 64;
 
-    ghost wide = { bloom-width };
-
-    ghost names = { names-bloom };
-
-    ghost packed = { packed-bloom };
+    ghost kind = { bloom };
 
     fn width_of() -> usize {
         Self::WIDTH
     }
 
     fn pack(nodes: &[u64], region: &mut [u8]) -> Result<(), Refusal>
-        ensures answer { λ r. ⌜ r ≡ pack-answer bloom-width (now (nodes .entry)) (now (region .entry)) ⌝ }
-        ensures region { λ _. ⌜ now (region .exit) ≡ pack-region bloom-width packed-bloom (now (nodes .entry)) (now (region .entry)) ⌝ }
+        ensures answer { λ r. ⌜ r ≡ pack-answer bloom (now (nodes .entry)) (now (region .entry)) ⌝ }
+        ensures region { λ _. ⌜ now (region .exit) ≡ pack-region bloom (now (nodes .entry)) (now (region .entry)) ⌝ }
         ensures exactly { λ r. ⌜ made r (λ _. Sets-exactly (now (nodes .entry)) (now (region .exit))) ⌝ }
     {
         if nodes.len() > READS || region.len() != Self::WIDTH {

@@ -4,7 +4,7 @@ ghost use mathlib.Core.Path.{_≡_};
 ghost use Prim.Native.Nat.{_+_, _*_, _<_, _≤_};
 ghost use lib.ListN.{length, take};
 ghost use Rattle.summaries.specs.ExactLists as spec;
-ghost use Rattle.summaries.specs.ExactLists.{exact-width, numbers, packed-exact, names-exact, Names-exactly};
+ghost use Rattle.summaries.specs.ExactLists.{exact-width, exact-list, numbers, Names-exactly};
 ghost use Rattle.limits.specs.Limits.{most-reads};
 ghost use Rattle.std.specs.Vec.{made};
 ghost use Rattle.summaries.specs.Calls.{pack-answer, pack-region};
@@ -41,19 +41,15 @@ fn number_in(region: &[u8], i: usize) -> u64
 pub impl Summary for ExactList as ExactListSummary {
     const WIDTH: usize = 1 + READS * NODE_WIDTH;
 
-    ghost wide = { exact-width };
-
-    ghost names = { names-exact };
-
-    ghost packed = { packed-exact };
+    ghost kind = { exact-list };
 
     fn width_of() -> usize {
         Self::WIDTH
     }
 
     fn pack(nodes: &[u64], region: &mut [u8]) -> Result<(), Refusal>
-        ensures answer { λ r. ⌜ r ≡ pack-answer exact-width (now (nodes .entry)) (now (region .entry)) ⌝ }
-        ensures region { λ _. ⌜ now (region .exit) ≡ pack-region exact-width packed-exact (now (nodes .entry)) (now (region .entry)) ⌝ }
+        ensures answer { λ r. ⌜ r ≡ pack-answer exact-list (now (nodes .entry)) (now (region .entry)) ⌝ }
+        ensures region { λ _. ⌜ now (region .exit) ≡ pack-region exact-list (now (nodes .entry)) (now (region .entry)) ⌝ }
         ensures exactly { λ r. ⌜ made r (λ _. Names-exactly (now (nodes .entry)) (now (region .exit))) ⌝ }
     {
         if nodes.len() > READS || region.len() != Self::WIDTH {

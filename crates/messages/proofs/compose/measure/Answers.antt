@@ -7,7 +7,7 @@ use Rattle.messages.proofs.compose.measure.Needs as need
 
 pub returns : need.returns
 returns g c =
-    let short = longest (g .S·Summary .wide) (g .T·Setting .wide) (c .args .writes) (g .S·Summary·met .«within_limit») (g .T·Setting·met .«within_limit») (omega arith) in
+    let short = longest (g .S·Summary .kind .wide) (g .T·Setting .kind .wide) (c .args .writes) (g .S·Summary·met .«within_limit») (g .T·Setting·met .«within_limit») (omega arith) in
     record {
       answer = search needs;
       facts = record {

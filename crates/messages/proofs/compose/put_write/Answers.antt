@@ -17,7 +17,7 @@ pub returns : need.returns
 returns g c =
     let xs = c .args .buffer .now in
     let at = c .args .at in
-    let x = g .T·Setting .wide in
+    let x = g .T·Setting .kind .wide in
     let width = c .width-of .ensures .answer in
     let room : at + (8 + x) ≤ length xs = omega arith in
     let number = c .put-node .ensures .region in

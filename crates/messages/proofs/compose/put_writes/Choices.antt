@@ -12,6 +12,6 @@ use Rattle.messages.proofs.compose.put_writes.Given as given
 abbrev pub Inv-loop-write : given.InvT-loop-write
 Inv-loop-write g l =
     All Numbered (take (l .write-index) (l .writes))
-    × (l .start ≡ l .at + l .write-index * write-width (g .T·Setting .wide))
-    × (take (l .start) (l .buffer) ≡ take (l .at) (l .entry .buffer) ++ joined (write-bytes (g .T·Setting .form)) (take (l .write-index) (l .writes)))
+    × (l .start ≡ l .at + l .write-index * write-width (g .T·Setting .kind .wide))
+    × (take (l .start) (l .buffer) ≡ take (l .at) (l .entry .buffer) ++ joined (write-bytes (g .T·Setting .kind)) (take (l .write-index) (l .writes)))
     × (drop (l .start) (l .buffer) ≡ drop (l .start) (l .entry .buffer))

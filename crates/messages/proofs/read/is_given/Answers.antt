@@ -6,8 +6,8 @@ use Rattle.messages.proofs.read.is_given.Needs as need
 
 pub node-of-requires : need.node-of-requires
 node-of-requires g c κs =
-    let W = g .S·Summary .wide in
-    let X = g .T·Setting .wide in
+    let W = g .S·Summary .kind .wide in
+    let X = g .T·Setting .kind .wide in
     let room = start-le W X (c .loop-j .j + 1) (c .args .i) (omega arith) in
     let next = start-next W X (c .loop-j .j) in
     (omega arith, omega (arith, room, next, c .pre .1))

@@ -5,4 +5,4 @@ use Rattle.messages.proofs.read.is_given.Given as given
 
 -- none of the writes before this one has the node
 abbrev pub Inv-loop-j : given.InvT-loop-j
-Inv-loop-j g l = given-before (g .S·Summary .wide) (g .T·Setting .wide) (l .message) (l .node) (l .j) ≡ false
+Inv-loop-j g l = given-before (g .S·Summary .kind .wide) (g .T·Setting .kind .wide) (l .message) (l .node) (l .j) ≡ false

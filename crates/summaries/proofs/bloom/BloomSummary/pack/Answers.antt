@@ -6,7 +6,7 @@ use Rattle.std.proofs.shelf.Lists.{take-all}
 use Rattle.std.proofs.shelf.Sums.{folded-more}
 use Rattle.std.proofs.shelf.Tests.{le-leb, eq-eqb, and-from, cond-true}
 use Rattle.summaries.proofs.BloomLaws.{packs-exactly}
-use Rattle.summaries.specs.Blooms.{marked, packed-bloom, Sets-exactly}
+use Rattle.summaries.specs.Blooms.{bloom, marked, packed-bloom, Sets-exactly}
 use Rattle.summaries.specs.Calls.{packs}
 use Rattle.summaries.proofs.bloom.BloomSummary.pack.Needs as need
 
@@ -20,7 +20,7 @@ pub returns : need.returns
 returns c =
     let ns = c .args .nodes .now in
     let region = c .args .region .now in
-    let can : packs 64 ns region ≡ true = and-from _ _ (le-leb (length ns) 32 (omega arith)) (eq-eqb (length region) 64 (omega arith)) in
+    let can : packs bloom ns region ≡ true = and-from _ _ (le-leb (length ns) 32 (omega arith)) (eq-eqb (length region) 64 (omega arith)) in
     let whole = c .loop-node .inv ∙ ap packed-bloom (take-all (c .loop-node .node-index) ns (c .loop-node-test .left)) in
     record {
       answer = sym (cond-true _ _ _ can);
