@@ -2,7 +2,7 @@
 --
 --   Numbered          a write's node number is one of 64 bits
 --   header-bytes      the first ten bytes
---   write-bytes      the bytes of one write
+--   write-bytes       the bytes of one write
 --   message           the whole message
 --   outside           whether a number is not 1 to a limit
 --   composed          what composing answers: the message's length, or the first thing that does not fit

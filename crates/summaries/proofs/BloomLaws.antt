@@ -22,7 +22,7 @@ use Rattle.std.specs.Places.{At}
 use Rattle.std.specs.shelf.Lists.{All, Has}
 use Rattle.summaries.proofs.Bits.{bit-with}
 use Rattle.summaries.specs.Blooms as blooms
-use Rattle.summaries.specs.Blooms.{hashes, position, with-bit, has-bit, marked, packed-bloom, names-bloom, Position, Sets-exactly}
+use Rattle.summaries.specs.Blooms.{hashes, position, with-bit, has-bit, marked, packed-bloom, names-bloom, Is-position, Sets-exactly}
 use Rattle.summaries.specs.Hashes.{murmur2}
 
 -- ---- positions
@@ -94,7 +94,7 @@ getD-zeros (suc k) (suc i) = getD-zeros k i
 no-bit : (q : ℕ) → has-bit q (replicate 64 0) ≡ false
 no-bit q = ap (λ n. eqb (n / 2 ^ (q % 8) % 2) 1) (getD-zeros 64 (q / 8)) ∙ ap (λ n. eqb (n % 2) 1) (zero-div (2 ^ (q % 8)))
 
-hits-decides : (q n : ℕ) → Decides (hits q n hashes) (Position q n)
+hits-decides : (q n : ℕ) → Decides (hits q n hashes) (Is-position q n)
 hits-decides q n =
     decides-below-or (λ i. eqb q (position n i)) (λ i. q ≡ position n i) (hits q n) (λ i. decides-eqb q (position n i)) refl (λ _. refl) hashes
 
@@ -103,7 +103,7 @@ pub packs-exactly : (ns : List ℕ) → Sets-exactly ns (packed-bloom ns)
 packs-exactly ns q =
     decides-at (has-bit q (packed-bloom ns)) (hit-by q ns)
     (bits-packing q ns (replicate 64 0) refl ∙ ap (λ b. hit-by q ns || b) (no-bit q) ∙ or-false (hit-by q ns))
-    (decides-by-or (λ n. hits q n hashes) (Position q) (hit-by q) (hits-decides q) refl (λ _ _. refl) ns)
+    (decides-by-or (λ n. hits q n hashes) (Is-position q) (hit-by q) (hits-decides q) refl (λ _ _. refl) ns)
 
 -- ---- what a query finds
 

@@ -10,8 +10,8 @@
 --   all-set         whether the first positions of a node are set
 --   names-bloom     whether the bytes name a node
 --   bloom           the kind
---   Position        a number is one of a node's twelve positions
---   Sets-exactly         packing sets exactly the positions of the listed nodes
+--   Is-position     a number is one of a node's twelve positions
+--   Sets-exactly    packing sets exactly the positions of the listed nodes
 use Prim.Native.Nat.{ℕ, zero, suc, _+_, _*_, _/_, _%_, _^_, _<_}
 use mathlib.Core.Bool.{Bool, true, _&&_}
 use mathlib.Core.List.{List}
@@ -68,9 +68,9 @@ abbrev pub bloom : SummaryKind
 bloom = record { wide = bloom-width; names = names-bloom; packed = packed-bloom }
 
 -- p is one of the twelve positions of the node n
-abbrev pub Position : ℕ → ℕ → Type 0
-Position p n = (i : ℕ) × (i < hashes) × (p ≡ position n i)
+abbrev pub Is-position : ℕ → ℕ → Type 0
+Is-position p n = (i : ℕ) × (i < hashes) × (p ≡ position n i)
 
 -- in bytes packed from the list, a bit is set exactly if it is a position of some listed node
 abbrev pub Sets-exactly : List ℕ → List ℕ → Type 0
-Sets-exactly ns bs = (p : ℕ) → Decides (has-bit p bs) ((k : ℕ) × (k < length ns) × At (Position p) ns k)
+Sets-exactly ns bs = (p : ℕ) → Decides (has-bit p bs) ((k : ℕ) × (k < length ns) × At (Is-position p) ns k)

@@ -7,7 +7,7 @@
 --   among           whether a node is one of the first c numbers
 --   names-exact     whether the bytes name a node
 --   exact-list      the kind
---   Names-exactly         the bytes name exactly the listed nodes
+--   Names-exactly   the bytes name exactly the listed nodes
 use Prim.Native.Nat.{ℕ, zero, suc, _+_, _-_, _*_, min}
 use mathlib.Core.Bool.{Bool, false, _||_}
 use mathlib.Core.List.{List, _∷_, _++_}
