@@ -124,7 +124,7 @@ fn node_of<T: Setting, S: Summary>(message: &[u8], i: usize) -> u64
     requires { ⌜ write-start (S·Summary .kind .wide) (T·Setting .kind .wide) i + 8 ≤ length (now message) ⌝ }
     ensures { λ r. ⌜ r ≡ spec.node-in (S·Summary .kind .wide) (T·Setting .kind .wide) (now (message .entry)) i ⌝ }
 {
-    u64_at(message, write_start::<T, S>(i)).unwrap_or(0)
+    u64_at(message, write_start::<T, S>(i)).unwrap()
 }
 
 // Whether one of the first i writes has the node.
@@ -213,10 +213,10 @@ pub fn summary_of<S: Summary>(message: &[u8]) -> &[u8]
 pub fn write_of<T: Setting, S: Summary>(message: &[u8], i: usize) -> Option<Write<T>>
     ensures { λ r. ⌜ r ≡ spec.write-in (S·Summary .kind) (T·Setting .kind) (now (message .entry)) i ⌝ }
 {
-    if message.len() < HEADER
-        || i >= message[5] as usize
-        || message.len() < write_start::<T, S>(i + 1)
-    {
+    let [_, _, _, _, _, count, ..] = message else {
+        return None;
+    };
+    if i >= *count as usize || message.len() < write_start::<T, S>(i + 1) {
         return None;
     }
     let setting = setting_of::<T, S>(message, i)?;

@@ -35,7 +35,7 @@ fn number_in(region: &[u8], i: usize) -> u64
     requires { ⌜ length (now region) ≡ exact-width ⌝ }
     ensures { λ r. ⌜ r ≡ spec.number-in (now (region .entry)) i ⌝ }
 {
-    u64_at(region, 1 + 8 * i).unwrap_or(0)
+    u64_at(region, 1 + 8 * i).unwrap()
 }
 
 pub impl Summary for ExactList as ExactListSummary {
