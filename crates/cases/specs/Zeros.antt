@@ -1,8 +1,8 @@
 -- Bytes that are all zero.
 use Rattle.std.specs.Prelude.{◌≡◌, ℕ, ◌+◌, ◌<◌, Bool, true, false, cond, ◌&&◌, List, [], ◌∷◌, length, drop, replicate, Some, None, Option, ◌==◌, ◌≢◌, slice_index, slice_index_or, refl}
 use Rattle.std.proofs.Common.{sym, ap, ap₂, ◌∙◌, arith}
-use Rattle.bytes.proofs.Numbers.{bytes_zeros}
-use Rattle.bytes.specs.Bytes.{Byte}
+use Rattle.number_bytes.proofs.Numbers.{bytes_zeros}
+use Rattle.number_bytes.specs.Bytes.{Byte}
 use Rattle.cases.specs.Widest.{all_zero, blank_form, blank_reading, packed_touched}
 use Rattle.cases.specs.declared.widest.Blank.{Blank}
 use Rattle.std.proofs.lemmas.List.{at_drop_more}

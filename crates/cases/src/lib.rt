@@ -1,4 +1,6 @@
 // Worked examples: facts about the definitions as theorems, and messages and lines at the limits as tests.
+#![tactic(auto)]
+
 ghost use Rattle.cases.specs.Examples.{Examples};
 ghost use Rattle.cases.specs.LineExamples.{LineExamples};
 

@@ -1,5 +1,7 @@
 // The limits of a session, in one place. The longest message follows from the others:
 // a header of 10 bytes, the widest summary, and 16 writes of a node number and the widest setting.
+#![tactic(auto)]
+
 ghost use Rattle.std.specs.Prelude.{◌≡◌};
 ghost use Rattle.limits.specs.Limits.{the_limits, the_line_limits};
 

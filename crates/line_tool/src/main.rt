@@ -1,4 +1,6 @@
 // The line tool: runs a script of calls on a line, and prints each answer (docs/LINE_TOOL.md).
+#![tactic(auto)]
+
 mod calls;
 mod command;
 mod script;

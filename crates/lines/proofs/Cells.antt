@@ -1,9 +1,9 @@
 -- What a write to the bytes of one place leaves of its link and of its message.
 use Rattle.std.proofs.Common.{◌≡◌, ℕ, ◌+◌, ◌-◌, ◌*◌, ◌^◌, ◌<◌, ◌≤◌, min, List, [], ◌∷◌, ◌++◌, length, get_or, take, drop, set, sym, refl, ap, ◌∙◌, ap₂, arith}
 use borrow.Rule.Slice.PartMut.{put_mid}
-use Rattle.bytes.proofs.Numbers.{number_of_two, number_big_endian, length_big_endian}
-use Rattle.bytes.proofs.Parts.{length_put}
-use Rattle.bytes.specs.Bytes.{big_endian, number}
+use Rattle.number_bytes.proofs.Numbers.{number_of_two, number_big_endian, length_big_endian}
+use Rattle.number_bytes.proofs.Parts.{length_put}
+use Rattle.number_bytes.specs.Bytes.{big_endian, number}
 use Rattle.lines.specs.Orders.{Offered}
 use Rattle.lines.specs.Places.{link_in, length_in, offered_in}
 use Rattle.std.proofs.lemmas.List.{length-take, length-set, get_or-take, get_or_at, take_at, take-take, take_more_set, drop_at, drop-set-lt}

@@ -1,7 +1,7 @@
 -- What a write to the bytes of one place leaves of all the bytes: that place as written, and everything else.
 use Rattle.std.proofs.Common.{◌≡◌, ℕ, ◌+◌, ◌-◌, ◌*◌, ◌/◌, ◌<◌, ◌⊎◌, List, length, take, drop, sym, ap, ◌∙◌, inl, inr, arith}
 use borrow.Rule.Slice.PartMut.{put_mid}
-use Rattle.bytes.proofs.Parts.{length_put}
+use Rattle.number_bytes.proofs.Parts.{length_put}
 use Rattle.lines.specs.Places.{cell, places_in, ChangedAt}
 use Rattle.std.proofs.lemmas.Slice.{between_is, between-put_mid, take-put_mid_below, drop-put_mid}
 use Rattle.std.proofs.lemmas.Bool.{cases_order}

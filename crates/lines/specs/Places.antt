@@ -20,7 +20,7 @@
 --   LinksInside    every link is a place
 --   LinksApart     no place is linked twice
 use Rattle.std.specs.Prelude.{◌≡◌, ℕ, ◌+◌, ◌*◌, ◌/◌, ◌<◌, min, List, ◌∷◌, ◌++◌, map, length, take, drop, ◌≢◌, slice_index, slice_index_or, slice_set}
-use Rattle.bytes.specs.Bytes.{number}
+use Rattle.number_bytes.specs.Bytes.{number}
 use Rattle.limits.specs.Limits.{line_place, line_header, longest_message, most_held}
 use Rattle.std.specs.List.{between, range_with_len}
 use Rattle.lines.specs.Orders.{Offered}

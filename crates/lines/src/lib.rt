@@ -1,3 +1,5 @@
+#![tactic(auto)]
+
 mod cell;
 pub mod first_come;
 pub mod line;

@@ -1,4 +1,6 @@
 // The message tool: reads lines, and answers each (docs/TOOL.md).
+#![tactic(auto)]
+
 mod command;
 mod draft;
 mod notation;

@@ -1,7 +1,7 @@
 -- The header taken apart byte by byte.
 use Rattle.std.proofs.Common.{◌≡◌, ℕ, ◌+◌, ◌-◌, ◌*◌, ◌≤◌, true, false, not, ◌||◌, eqb, ltb, List, length, get_or, drop, Some, Option, sym, ap, ◌∙◌, arith}
-use Rattle.bytes.proofs.Numbers.{number_of_two, number_of_four}
-use Rattle.bytes.specs.Bytes.{number}
+use Rattle.number_bytes.proofs.Numbers.{number_of_two, number_of_four}
+use Rattle.number_bytes.specs.Bytes.{number}
 use Rattle.messages.specs.Reading.{raw_header_in}
 use Rattle.messages.specs.declared.read.RawHeader.{RawHeader}
 use Rattle.std.proofs.lemmas.List.{get_or-drop}

@@ -1,9 +1,9 @@
 -- Reading a message that was composed returns all its fields: first the parts of the message, then its checks, none of which
 -- finds anything wrong.
 use Rattle.std.proofs.Common.{◌≡◌, ℕ, zero, suc, ◌+◌, ◌-◌, ◌*◌, ◌^◌, ◌<◌, ◌≤◌, Bool, true, false, cond, not, ◌&&◌, ◌||◌, eqb, ltb, leb, List, [], ◌∷◌, ◌++◌, map, length, get_or, take, drop, is_some, Some, None, Ok, Option, sym, refl, ap, ◌∙◌, subst, ap₂, arith}
-use Rattle.bytes.proofs.Numbers.{number_big_endian}
-use Rattle.bytes.proofs.Parts.{nth_joined, length_joined}
-use Rattle.bytes.specs.Bytes.{big_endian, number}
+use Rattle.number_bytes.proofs.Numbers.{number_big_endian}
+use Rattle.number_bytes.proofs.Parts.{nth_joined, length_joined}
+use Rattle.number_bytes.specs.Bytes.{big_endian, number}
 use Rattle.messages.proofs.Judging.{start_le, start_next, known_decides, given_decides, none_found}
 use Rattle.messages.proofs.Records.{length_record}
 use Rattle.messages.specs.Composing.{write_bytes, message, Composes, Numbered, outside}

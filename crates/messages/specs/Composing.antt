@@ -9,7 +9,7 @@
 --   Composes          what holds where a message of n bytes is composed
 --   buffer_after      what the buffer holds then
 use Rattle.std.specs.Prelude.{◌≡◌, ℕ, ◌-◌, ◌≤◌, Bool, cond, ◌||◌, List, ◌∷◌, ◌++◌, length, drop, Ok, Err, Result, ◌==◌, nat_lt}
-use Rattle.bytes.specs.Bytes.{Number, big_endian}
+use Rattle.number_bytes.specs.Bytes.{Number, big_endian}
 use Rattle.limits.specs.Limits.{most_suites, slots_each, most_reads, most_writes, longest_message}
 use Rattle.messages.specs.Layout.{version, message_length}
 use Rattle.messages.specs.declared.compose.Misfit.{Misfit}

@@ -28,7 +28,7 @@
 --   ExactFault         a fault is exactly that of the first failing check
 --   Faultless           what holds of a message without a fault
 use Rattle.std.specs.Prelude.{◌≡◌, ℕ, zero, suc, ◌+◌, ◌-◌, ◌<◌, ◌≤◌, Bool, true, false, cond, not, ◌&&◌, ◌||◌, List, [], ◌∷◌, ◌++◌, length, is_some, Some, None, Ok, Err, Option, Result, ◌==◌, ◌≢◌, nat_le, nat_lt, slice_index}
-use Rattle.bytes.specs.Bytes.{number}
+use Rattle.number_bytes.specs.Bytes.{number}
 use Rattle.limits.specs.Limits.{slots_each, most_writes, header_width, node_width}
 use Rattle.messages.specs.Causes.{fault}
 use Rattle.messages.specs.Composing.{outside}

@@ -1,6 +1,6 @@
 // Composing a message: the header, the summary of the reads, the writes.
 ghost use Rattle.std.specs.Prelude.{◌≡◌, ◌+◌, ◌*◌, ◌≤◌, ◌++◌, length, take, drop, IfOk};
-ghost use Rattle.bytes.specs.Bytes.{Number, big_endian};
+ghost use Rattle.number_bytes.specs.Bytes.{Number, big_endian};
 ghost use Rattle.limits.specs.Limits.{longest_message};
 ghost use Rattle.messages.specs.Composing.{header_bytes, write_bytes, message, composed, Composes, buffer_after, Numbered};
 ghost use Rattle.messages.specs.Layout.{write_width};

@@ -1,4 +1,6 @@
 // The message of a move: its layout, composing it, and reading it with the faults a reader finds.
+#![tactic(auto)]
+
 pub mod compose;
 pub mod fault;
 mod layout;

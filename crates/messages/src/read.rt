@@ -1,6 +1,6 @@
 // Reading a message: its first fault, or its fields.
 ghost use Rattle.std.specs.Prelude.{◌≡◌, ◌+◌, ◌-◌, ◌<◌, ◌≤◌, Bool, cond, not, ◌||◌, length, Some, None, OnOk};
-ghost use Rattle.bytes.specs.Bytes.{number};
+ghost use Rattle.number_bytes.specs.Bytes.{number};
 ghost use Rattle.messages.specs.Causes as causes;
 ghost use Rattle.messages.specs.Layout.{write_start, message_length};
 ghost use Rattle.messages.specs.Reading as spec;
@@ -10,7 +10,7 @@ ghost use Rattle.std.specs.List.{between, range_with_len, flat_map};
 use crate::fault::{Cause, Fault};
 use crate::layout::{VERSION, write_start};
 use crate::parts::{Header, Origin, Write};
-use bytes::u64_at;
+use number_bytes::u64_at;
 use limits::{HEADER, NODE_WIDTH, SLOTS, WRITES};
 use settings::kind::Setting;
 use summaries::kind::Summary;

@@ -4,9 +4,9 @@ use Rattle.std.proofs.Common.{sym, ap, ap₂, subst, ◌∙◌, arith, to_z, of_
 use borrow.Rule.Slice.PartMut.{put_mid}
 use Rattle.std.specs.Int.Signed.{mag}
 use Rattle.std.specs.Int.{w32}
-use Rattle.bytes.specs.Bytes.{Byte, big_endian, number, number_at}
-use Rattle.bytes.proofs.Numbers.{number_big_endian, big_endian_number}
-use Rattle.bytes.proofs.Parts.{put_last, length_put}
+use Rattle.number_bytes.specs.Bytes.{Byte, big_endian, number, number_at}
+use Rattle.number_bytes.proofs.Numbers.{number_big_endian, big_endian_number}
+use Rattle.number_bytes.proofs.Parts.{put_last, length_put}
 use Rattle.settings.specs.Same.{same_colour}
 use Rattle.settings.specs.Colours.{count_of, colour_of, colour_form, colour_reading}
 use Rattle.settings.specs.declared.colour.Colour.{Colour}

@@ -11,7 +11,7 @@ use Rattle.std.proofs.Common.{arith}
 use Rattle.std.specs.Int.Signed.{mag}
 use Rattle.std.specs.Int.{w32}
 use mir.Val.{to_z, of_z, sel}
-use Rattle.bytes.specs.Bytes.{big_endian, number}
+use Rattle.number_bytes.specs.Bytes.{big_endian, number}
 use Rattle.settings.specs.Kinds.{SettingKind}
 use Rattle.settings.specs.declared.colour.Colour.{Colour}
 use Rattle.std.proofs.lemmas.Bool.{ltb-true, ltb-false}

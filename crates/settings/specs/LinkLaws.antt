@@ -2,9 +2,9 @@
 use Rattle.std.specs.Prelude.{◌≡◌, ℕ, ◌%◌, ◌^◌, ◌<◌, Bool, true, false, cond, ◌&&◌, List, [], ◌∷◌, ◌++◌, length, take, Some, None, Option, ◌==◌, nat_eq, nat_le, slice_index, slice_set, refl}
 use Rattle.std.proofs.Common.{sym, ap, ap₂, subst, ◌∙◌, mod-eq_of_lt, arith}
 use borrow.Rule.Slice.PartMut.{put_mid}
-use Rattle.bytes.specs.Bytes.{Byte, big_endian, number, number_at}
-use Rattle.bytes.proofs.Numbers.{number_big_endian, big_endian_number}
-use Rattle.bytes.proofs.Parts.{put_last}
+use Rattle.number_bytes.specs.Bytes.{Byte, big_endian, number, number_at}
+use Rattle.number_bytes.proofs.Numbers.{number_big_endian, big_endian_number}
+use Rattle.number_bytes.proofs.Parts.{put_last}
 use Rattle.settings.specs.Same.{same_node}
 use Rattle.settings.specs.Links.{node_of, link_form, link_reading}
 use Rattle.settings.specs.declared.link.Link.{Link}

@@ -7,7 +7,7 @@
 --   links           the kind
 use Rattle.std.specs.Prelude.{ℕ, ◌%◌, ◌^◌, cond, ◌&&◌, List, ◌∷◌, length, Some, None, Option, ◌==◌, slice_index}
 use Rattle.std.proofs.Common.{mod-lt, lit<}
-use Rattle.bytes.specs.Bytes.{big_endian, number}
+use Rattle.number_bytes.specs.Bytes.{big_endian, number}
 use Rattle.settings.specs.Kinds.{SettingKind}
 use Rattle.settings.specs.declared.link.Link.{Link}
 use Rattle.settings.specs.declared.link.Link.TheVariants.{NoNode, To}

@@ -5,7 +5,7 @@ ghost use Rattle.std.proofs.Common.{rules, arith};
 
 use crate::colour::Colour;
 use crate::kind::{Setting, WrongWidth};
-use bytes::u32_at;
+use number_bytes::u32_at;
 
 impl Setting for Colour {
     const WIDTH: usize = 12;

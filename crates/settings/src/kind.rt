@@ -1,6 +1,6 @@
 // What every kind of setting shows. Whatever handles settings is written once, over this trait.
 ghost use Rattle.std.specs.Prelude.{◌≡◌, ℕ, ◌≤◌, List, length, Some};
-ghost use Rattle.bytes.specs.Bytes.{Byte};
+ghost use Rattle.number_bytes.specs.Bytes.{Byte};
 ghost use Rattle.limits.specs.Limits.{widest_setting};
 ghost use Rattle.std.specs.List.{AllByRecursion as All};
 ghost use Rattle.settings.specs.Forms.{written, region_after};

@@ -5,7 +5,7 @@ ghost use Rattle.std.proofs.Common.{rules};
 
 use crate::kind::{Setting, WrongWidth};
 use crate::link::{Link, NodeNumber};
-use bytes::u64_at;
+use number_bytes::u64_at;
 
 impl Setting for Link {
     const WIDTH: usize = 9;

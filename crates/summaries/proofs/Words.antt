@@ -1,6 +1,6 @@
 -- Four bytes as a word, the lowest first.
 use Rattle.std.proofs.Common.{◌≡◌, ℕ, ◌+◌, ◌*◌, List, [], ◌∷◌, get_or, ap, ◌∙◌, arith}
-use Rattle.bytes.specs.Bytes.{big_endian}
+use Rattle.number_bytes.specs.Bytes.{big_endian}
 use Rattle.std.specs.List.{between}
 use Rattle.summaries.specs.Hashes.{word}
 

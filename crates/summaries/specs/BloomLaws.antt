@@ -3,8 +3,8 @@ use Rattle.std.specs.Prelude.{◌≡◌, ℕ, zero, suc, ◌+◌, ◌*◌, ◌/�
 use Rattle.std.proofs.Common.{sym, ap, ap₂, ◌∙◌, mod-lt, add-one, arith, lit<}
 use Rattle.std.proofs.Math.Nat.{zero-div}
 use Rattle.std.specs.Int.Bits.{bit_or}
-use Rattle.bytes.specs.Bytes.{Byte}
-use Rattle.bytes.proofs.Numbers.{bytes_zeros}
+use Rattle.number_bytes.specs.Bytes.{Byte}
+use Rattle.number_bytes.proofs.Numbers.{bytes_zeros}
 use Rattle.std.proofs.lemmas.Nat.{or_lt, pow_below}
 use Rattle.std.proofs.ByRecursion.{All-set}
 use Rattle.std.proofs.lemmas.List.{length-set}

@@ -2,9 +2,9 @@
 use Rattle.std.specs.Prelude.{◌≡◌, ℕ, zero, suc, ◌+◌, ◌-◌, ◌*◌, ◌^◌, ◌<◌, ◌≤◌, min, Bool, true, false, ◌||◌, List, [], ◌∷◌, ◌++◌, length, take, drop, replicate, Decides, ◌==◌, ◌≢◌, nat_eq, slice_index, slice_set, refl}
 use Rattle.std.proofs.Common.{sym, ap, subst, ◌∙◌, mul_comm, add-one, arith}
 use borrow.Rule.Slice.PartMut.{put_mid}
-use Rattle.bytes.specs.Bytes.{Byte, Number, big_endian, number}
-use Rattle.bytes.proofs.Numbers.{length_big_endian, bytes_big_endian, number_big_endian, bytes_zeros}
-use Rattle.bytes.proofs.Parts.{put_last, length_joined, nth_joined}
+use Rattle.number_bytes.specs.Bytes.{Byte, Number, big_endian, number}
+use Rattle.number_bytes.proofs.Numbers.{length_big_endian, bytes_big_endian, number_big_endian, bytes_zeros}
+use Rattle.number_bytes.proofs.Parts.{put_last, length_joined, nth_joined}
 use Rattle.limits.specs.Limits.{most_reads}
 use Rattle.std.proofs.ByRecursion.{All-append, All-get_or}
 use Rattle.std.proofs.lemmas.List.{flat_map_more, take_more, take_more_set, length-append, length-replicate, get_or_default}

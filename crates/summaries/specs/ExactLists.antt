@@ -9,7 +9,7 @@
 --   exact_list      the kind
 --   NamesExactly   the bytes name exactly the listed nodes
 use Rattle.std.specs.Prelude.{ℕ, zero, suc, ◌+◌, ◌-◌, ◌*◌, min, Bool, false, ◌||◌, List, ◌∷◌, ◌++◌, length, replicate, Decides, ◌==◌, slice_index}
-use Rattle.bytes.specs.Bytes.{big_endian, number}
+use Rattle.number_bytes.specs.Bytes.{big_endian, number}
 use Rattle.limits.specs.Limits.{most_reads}
 use Rattle.std.specs.List.{between, flat_map, ContainsAt as Has}
 use Rattle.summaries.specs.Kinds.{SummaryKind}

@@ -9,7 +9,7 @@
 --   finished        the hash after its last step
 --   murmur2         the hash of a number with a seed
 use Rattle.std.specs.Prelude.{ℕ, ◌*◌, ◌/◌, ◌%◌, ◌^◌, List, reverse, bit_xor}
-use Rattle.bytes.specs.Bytes.{big_endian, number}
+use Rattle.number_bytes.specs.Bytes.{big_endian, number}
 use Rattle.std.specs.List.{between}
 
 -- the hash's constant

@@ -8,7 +8,7 @@ ghost use Rattle.summaries.specs.ExactLaws.{packed_wide, packed_bytes, names_pac
 ghost use Rattle.std.proofs.Common.{rules};
 
 use crate::kind::Summary;
-use bytes::u64_at;
+use number_bytes::u64_at;
 use limits::{NODE_WIDTH, READS};
 use refusals::Refusal;
 

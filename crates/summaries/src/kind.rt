@@ -1,6 +1,6 @@
 // What every kind of summary shows. Composing and ruling are written once, over this trait.
 ghost use Rattle.std.specs.Prelude.{◌≡◌, ℕ, ◌≤◌, true, false, List, [], length};
-ghost use Rattle.bytes.specs.Bytes.{Byte, Number};
+ghost use Rattle.number_bytes.specs.Bytes.{Byte, Number};
 ghost use Rattle.limits.specs.Limits.{most_reads, widest_summary};
 ghost use Rattle.std.specs.List.{ContainsAt as Has, AllByRecursion as All};
 ghost use Rattle.summaries.specs.Calls.{pack_answer, pack_region, query_answer};

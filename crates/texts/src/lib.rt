@@ -1,4 +1,6 @@
 // Lines of text, given as bytes: gathered byte by byte, read field by field; numbers and hexadecimal digits in them.
+#![tactic(auto)]
+
 mod buffer;
 mod decimal;
 mod hexadecimal;

@@ -1,6 +1,6 @@
 use Rattle.std.proofs.Common.{◌≡◌, ◌+◌, ◌-◌, ◌≤◌, true, eqb, ◌++◌, length, take, drop, ap, ◌∙◌, ap₂, arith, rules}
 use borrow.Rule.Slice.PartMut.{put_mid}
-use Rattle.bytes.proofs.Parts.{length_put}
+use Rattle.number_bytes.proofs.Parts.{length_put}
 use Rattle.messages.proofs.Records.{put_record}
 use Rattle.std.proofs.lemmas.List.Edits.{length-between}
 use Rattle.std.proofs.lemmas.Bool.{eq-eqb, cond-true}

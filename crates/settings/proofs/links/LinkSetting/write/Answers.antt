@@ -1,5 +1,5 @@
 use Rattle.std.proofs.Common.{◌≡◌, true, eqb, ◌∷◌, length, sym, ap, ◌∙◌, arith}
-use Rattle.bytes.specs.Bytes.{big_endian}
+use Rattle.number_bytes.specs.Bytes.{big_endian}
 use Rattle.settings.specs.LinkLaws.{byte_and_eight}
 use Rattle.settings.specs.Links.{link_form}
 use Rattle.std.proofs.lemmas.Bool.{eq-eqb, cond-true}

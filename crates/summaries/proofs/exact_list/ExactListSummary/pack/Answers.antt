@@ -1,5 +1,5 @@
 use Rattle.std.proofs.Common.{◌≡◌, true, length, replicate, sym, refl, ap, ◌∙◌, subst, arith}
-use Rattle.bytes.specs.Bytes.{Number}
+use Rattle.number_bytes.specs.Bytes.{Number}
 use Rattle.std.proofs.lemmas.Bool.{le-leb, eq-eqb, and_from, cond-true}
 use Rattle.std.proofs.ByRecursion.{All-from_get_or}
 use Rattle.std.proofs.lemmas.List.Edits.{length-between}

@@ -6,7 +6,7 @@ use Rattle.std.specs.List.{between, AllByRecursion as All}
 use Rattle.std.specs.Int.Digits as digits
 use Rattle.std.proofs.lemmas.Int.Digits.{number_lt}
 use Rattle.std.proofs.lemmas.List.{drop_more}
-use Rattle.bytes.specs.Bytes.{Byte, byte_of, big_endian, number}
+use Rattle.number_bytes.specs.Bytes.{Byte, byte_of, big_endian, number}
 
 pub length_big_endian : (k n : ℕ) → length (big_endian k n) ≡ k
 length_big_endian zero n = refl

@@ -1,6 +1,8 @@
 // Numbers as bytes, the highest byte first: how every field of several bytes is written.
+#![tactic(auto)]
+
 ghost use Rattle.std.specs.Prelude.{◌≡◌};
-ghost use Rattle.bytes.specs.Bytes.{number_at};
+ghost use Rattle.number_bytes.specs.Bytes.{number_at};
 
 /// The number in the eight bytes from `at` on, or `None` where `bytes` ends before.
 pub fn u64_at(bytes: &[u8], at: usize) -> Option<u64>

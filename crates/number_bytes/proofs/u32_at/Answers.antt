@@ -1,7 +1,7 @@
 use Rattle.std.proofs.Common.{◌≡◌, ◌+◌, ◌≤◌, true, cond, leb, length, Some, sym, ap, ◌∙◌, arith}
 use Rattle.std.proofs.lemmas.Bool.{le-leb, cond-true}
-use Rattle.bytes.proofs.Numbers.{number_of_four}
-use Rattle.bytes.proofs.u32_at.Goals as goal
+use Rattle.number_bytes.proofs.Numbers.{number_of_four}
+use Rattle.number_bytes.proofs.u32_at.Goals as goal
 
 pub returns : goal.returns
 returns c =
