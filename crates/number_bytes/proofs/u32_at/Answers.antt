@@ -8,5 +8,5 @@ returns c =
     let xs = c.args.bytes.now in
     let at = c.args.at in
     let inside : at + 4 ≤ length xs = omega arith in
-    ap Some (c.from-be-bytes.ensures ∙ sym (number_of_four xs at inside))
+    ap Some (c.from_be_bytes.ensures ∙ sym (number_of_four xs at inside))
     ∙ sym (cond-true _ _ _ (le-leb (at + 4) (length xs) inside))
