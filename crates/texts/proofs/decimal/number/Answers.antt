@@ -5,19 +5,19 @@ use Rattle.texts.proofs.decimal.number.Goals as goal
 
 pub loop-byte-init : goal.loop-byte-init
 loop-byte-init c =
-    let some = eqb-false _ _ (sym c.if-is-empty.ensures) in
+    let some = eqb-false _ _ (sym c.if-is_empty.ensures) in
     read_on_number c.args.field.now (omega arith)
 
 pub loop-byte-preserved : goal.loop-byte-preserved
 loop-byte-preserved c =
-    sym (read_on_more _ c.args.field.now _ _ c.loop-byte-test.true c.in-ok-value.ensures)
+    sym (read_on_more _ c.args.field.now _ _ c.loop-byte-test.true c.in_ok-value.ensures)
     ∙ c.loop-byte.invariant
 
-pub returns-in-err-value : goal.returns-in-err-value
+pub returns-in_err-value : goal.returns-in_err-value
 unfolding read_on
-returns-in-err-value c =
-    c.from-residual.ensures
-    ∙ sym (read_on_more _ c.args.field.now _ _ c.loop-byte-test.true c.in-err-value.ensures)
+returns-in_err-value c =
+    c.from_residual.ensures
+    ∙ sym (read_on_more _ c.args.field.now _ _ c.loop-byte-test.true c.in_err-value.ensures)
     ∙ c.loop-byte.invariant
 
 pub returns : goal.returns

@@ -5,12 +5,12 @@ use Rattle.texts.proofs.hexadecimal.all_hex.Goals as goal
 
 pub loop-byte-preserved : goal.loop-byte-preserved
 loop-byte-preserved c =
-    sym (every_more is_hex c.args.text.now _ _ c.loop-byte-test.true c.if-not-is-ascii-hexdigit.ensures.value)
+    sym (every_more is_hex c.args.text.now _ _ c.loop-byte-test.true c.if-not-is_ascii_hexdigit.ensures.value)
     ∙ c.loop-byte.invariant
 
-pub returns-then-not-is-ascii-hexdigit : goal.returns-then-not-is-ascii-hexdigit
-returns-then-not-is-ascii-hexdigit c =
-    sym (every_more is_hex c.args.text.now _ _ c.loop-byte-test.true c.if-not-is-ascii-hexdigit.ensures.value)
+pub returns-then-not-is_ascii_hexdigit : goal.returns-then-not-is_ascii_hexdigit
+returns-then-not-is_ascii_hexdigit c =
+    sym (every_more is_hex c.args.text.now _ _ c.loop-byte-test.true c.if-not-is_ascii_hexdigit.ensures.value)
     ∙ c.loop-byte.invariant
 
 pub returns : goal.returns
