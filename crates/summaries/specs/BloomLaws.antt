@@ -98,13 +98,13 @@ packs_exactly ns q =
 
 -- ---- what a query finds
 
-pub all_set_decides : (bs : List ℕ) (n k : ℕ) → Decides (blooms.All-set bs n k) ((i : ℕ) → i < k → has_bit (position n i) bs ≡ true)
+pub all_set_decides : (bs : List ℕ) (n k : ℕ) → Decides (blooms.all_set bs n k) ((i : ℕ) → i < k → has_bit (position n i) bs ≡ true)
 all_set_decides bs n k =
-    Decides-below_and (λ i. has_bit (position n i) bs) (λ i. has_bit (position n i) bs ≡ true) (blooms.All-set bs n) (λ _. (λ e. e, λ e. e)) refl
+    Decides-below_and (λ i. has_bit (position n i) bs) (λ i. has_bit (position n i) bs ≡ true) (blooms.all_set bs n) (λ _. (λ e. e, λ e. e)) refl
     (λ _. refl) k
 
-pub all_set_more : (bs : List ℕ) (n i : ℕ) → has_bit (position n i) bs ≡ true → blooms.All-set bs n i ≡ true → blooms.All-set bs n (i + 1) ≡ true
-all_set_more bs n i here before = ap (blooms.All-set bs n) (add-one i) ∙ and_from (has_bit (position n i) bs) (blooms.All-set bs n i) here before
+pub all_set_more : (bs : List ℕ) (n i : ℕ) → has_bit (position n i) bs ≡ true → blooms.all_set bs n i ≡ true → blooms.all_set bs n (i + 1) ≡ true
+all_set_more bs n i here before = ap (blooms.all_set bs n) (add-one i) ∙ and_from (has_bit (position n i) bs) (blooms.all_set bs n i) here before
 
 pub one_not_set : (bs : List ℕ) (n i : ℕ) → i < hashes → has_bit (position n i) bs ≡ false → names_bloom bs n ≡ false
 one_not_set bs n i inside here = by (names_bloom bs n) refl

@@ -6,5 +6,5 @@ use Rattle.summaries.proofs.bloom.mark.Goals as goal
 pub loop-i-preserved : goal.loop-i-preserved
 loop-i-preserved c =
     let n = c.args.node in
-    let at = c.position-of.ensures ∙ position_is n c.loop-i.i _ _ c.murmur2-a.ensures c.murmur2-b.ensures in
-    c.set-bit.ensures ∙ ap₂ with_bit at c.loop-i.invariant ∙ ap (λ k. marked n k c.args.region.now) (sym (add-one c.loop-i.i))
+    let at = c.position_of.ensures ∙ position_is n c.loop-i.i _ _ c.murmur2-a.ensures c.murmur2-b.ensures in
+    c.set_bit.ensures ∙ ap₂ with_bit at c.loop-i.invariant ∙ ap (λ k. marked n k c.args.region.now) (sym (add-one c.loop-i.i))

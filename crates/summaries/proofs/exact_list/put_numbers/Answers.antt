@@ -8,7 +8,7 @@ pub loop-node-preserved : goal.loop-node-preserved
 loop-node-preserved c = (
   omega arith,
   put_number c.args.nodes.now c.loop-node.region _ _ c.loop-node.at c.loop-node.node-index c.loop-node-test.true
-      (omega arith) (c.copy-from-slice.ensures.after ∙ c.to-be-bytes.ensures) c.loop-node.invariant.1,
+      (omega arith) (c.copy_from_slice.ensures.after ∙ c.to_be_bytes.ensures) c.loop-node.invariant.1,
 )
 
 pub returns : goal.returns

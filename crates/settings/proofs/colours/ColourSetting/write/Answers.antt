@@ -9,9 +9,9 @@ returns c =
     let it = c.args.self.now in
     let wide : length xs ≡ 12 = omega arith in
     let test : eqb (length xs) 12 ≡ true = eq-eqb (length xs) 12 wide in
-    let one = c.copy-from-slice.ensures.after ∙ c.to-be-bytes.ensures ∙ four_of_bits it.lift it.lift_fits in
-    let two = c.copy-from-slice-2.ensures.after ∙ c.to-be-bytes-2.ensures ∙ four_of_bits it.gamma it.gamma_fits in
-    let three = c.copy-from-slice-3.ensures.after ∙ c.to-be-bytes-3.ensures ∙ four_of_bits it.gain it.gain_fits in
+    let one = c.copy_from_slice.ensures.after ∙ c.to_be_bytes.ensures ∙ four_of_bits it.lift it.lift_fits in
+    let two = c.copy_from_slice-2.ensures.after ∙ c.to_be_bytes-2.ensures ∙ four_of_bits it.gamma it.gamma_fits in
+    let three = c.copy_from_slice-3.ensures.after ∙ c.to_be_bytes-3.ensures ∙ four_of_bits it.gain it.gain_fits in
     record {
       answer = sym (cond-true _ _ _ test);
       region =

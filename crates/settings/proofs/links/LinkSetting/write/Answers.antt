@@ -12,7 +12,7 @@ returns c =
     let tag = c.match-self.tag in
     let wide : length xs ≡ 9 = omega arith in
     let test : eqb (length xs) 9 ≡ true = eq-eqb (length xs) 9 wide in
-    let eight = c.copy-from-slice.ensures.after ∙ c.to-be-bytes.ensures in
+    let eight = c.copy_from_slice.ensures.after ∙ c.to_be_bytes.ensures in
     let form : tag.0 ∷ big_endian 8 tag.1 ≡ link_form c.args.self.now = elim c.match-self.branch [ in-NoNode w ↦ ap (λ t. t.0 ∷ big_endian 8 t.1) w.tag-is ∙ ap link_form (sym w.in-NoNode.is) | in-To w ↦ ap (λ t. t.0 ∷ big_endian 8 t.1) w.tag-is ∙ ap link_form (sym w.in-To.is) ] in
     record {
       answer = sym (cond-true _ _ _ test);
