@@ -4,7 +4,7 @@
 --   arrivals_of  all messages, the agreed ones and then those that wait
 --   handed       the handed bytes, as the line holds them
 use Rattle.std.specs.Prelude.{ℕ, List}
-use Rattle.std.specs.Borrow.{Bor}
+use Rattle.std.specs.Borrow.{MutBor}
 use Rattle.lines.specs.Orders.{arrivals}
 use Rattle.lines.specs.Stores.{Stored, memory, view, state_of}
 use Rattle.lines.specs.declared.first_come.FirstCome.{FirstCome}
@@ -18,5 +18,5 @@ abbrev pub arrivals_of : FirstCome → List (List ℕ)
 arrivals_of l = arrivals (state_of (contents l)) (contents l).queue
 
 -- the handed bytes, as the line holds them
-abbrev pub handed : FirstCome → Bor (List ℕ)
+abbrev pub handed : FirstCome → MutBor (List ℕ)
 handed l = memory l.store

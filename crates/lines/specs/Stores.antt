@@ -16,7 +16,7 @@
 --   stored_settle  after a message of the queue was settled
 --   FirstOfSuite none before it in the queue is for its suite
 use Rattle.std.specs.Prelude.{◌≡◌, ℕ, ◌+◌, ◌<◌, ◌≤◌, List, [], ◌∷◌, ◌++◌, map, length, get_or, take, Result, ◌≢◌, slice_index_or}
-use Rattle.std.specs.Borrow.{Bor}
+use Rattle.std.specs.Borrow.{MutBor}
 use Rattle.limits.specs.Limits.{most_suites, longest_message}
 use Rattle.refusals.specs.declared.Refusal.{Refusal}
 use Rattle.std.specs.List.{between, remove}
@@ -59,7 +59,7 @@ stored bs agreed waiting = record {
 }
 
 -- the handed bytes, as the store holds them
-abbrev pub memory : Store → Bor (List ℕ)
+abbrev pub memory : Store → MutBor (List ℕ)
 memory s = s.places.bytes
 
 -- what a store means

@@ -4,7 +4,7 @@
 --   handed       the handed bytes, as the line holds them
 --   turn_of      the suite whose turn it is
 use Rattle.std.specs.Prelude.{ℕ, List}
-use Rattle.std.specs.Borrow.{Bor}
+use Rattle.std.specs.Borrow.{MutBor}
 use Rattle.lines.specs.Stores.{Stored, memory, view}
 use Rattle.lines.specs.declared.turn.Turn.{Turn}
 
@@ -17,5 +17,5 @@ abbrev pub turn_of : Turn → ℕ
 turn_of l = l.turn
 
 -- the handed bytes, as the line holds them
-abbrev pub handed : Turn → Bor (List ℕ)
+abbrev pub handed : Turn → MutBor (List ℕ)
 handed l = memory l.store

@@ -6,4 +6,4 @@ pub returns : goal.returns
 returns c =
     let bs = c.args.cell.now in
     message_is bs c.min-length.result
-    (omega (arith, c.min-length.ensures, c.from.ensures, c.from-be-bytes.ensures, length_is bs (omega arith)))
+    (omega (arith, c.min-length.ensures, c.from.ensures, c.from_be_bytes.ensures, length_is bs (omega arith)))

@@ -5,8 +5,8 @@ use Rattle.lines.proofs.cell.put_link.Goals as goal
 pub returns : goal.returns
 returns c =
     let cell = c.args.cell.now in
-    let written = c.copy-from-slice.ensures.after ∙ c.to-be-bytes.ensures in
+    let written = c.copy_from_slice.ensures.after ∙ c.to_be_bytes.ensures in
     record {
-      link = put_link_links cell _ c.args.link c.requires.0 written c.requires.1;
-      message = put_link_keeps cell _ c.args.link c.requires.0 written;
+      link = put_link_links cell _ c.args.link c.requires.cell_len written c.requires.link_bound;
+      message = put_link_keeps cell _ c.args.link c.requires.cell_len written;
     }

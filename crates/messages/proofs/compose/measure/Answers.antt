@@ -12,8 +12,8 @@ returns g c =
         slot_there = (omega arith, omega arith);
         few_reads = omega arith;
         few_writes = (omega arith, omega arith);
-        length_is = c.write-start-length.ensures;
+        length_is = c.write_start-length.ensures;
         enough = omega arith;
-        short = omega (arith, short, c.write-start-length.ensures);
+        short = omega (arith, short, c.write_start-length.ensures);
       };
     }

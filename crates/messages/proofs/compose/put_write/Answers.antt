@@ -11,17 +11,17 @@ returns g c =
     let xs = c.args.buffer.now in
     let at = c.args.at in
     let x = g.T.Setting.kind.wide in
-    let width = c.width-of.ensures.answer in
+    let width = c.width_of.ensures.answer in
     let room : at + (8 + x) ≤ length xs = omega arith in
-    let number = c.put-node.ensures.region in
-    let eight : length c.put-node.new.region ≡ 8 = ap length number in
-    let after = put_mid at (at + 8 - at) xs c.put-node.new.region in
-    let long : length after ≡ length xs = length_put at (at + 8 - at) xs c.put-node.new.region (omega arith) (omega arith) in
-    let part : length (take (at + 8 + c.width-of.result - (at + 8)) (drop (at + 8) after)) ≡ x =
-    length-between after (at + 8) (at + 8 + c.width-of.result) (omega arith) ∙ omega arith in
+    let number = c.put_node.ensures.region in
+    let eight : length c.put_node.new.region ≡ 8 = ap length number in
+    let after = put_mid at (at + 8 - at) xs c.put_node.new.region in
+    let long : length after ≡ length xs = length_put at (at + 8 - at) xs c.put_node.new.region (omega arith) (omega arith) in
+    let part : length (take (at + 8 + c.width_of.result - (at + 8)) (drop (at + 8) after)) ≡ x =
+    length-between after (at + 8) (at + 8 + c.width_of.result) (omega arith) ∙ omega arith in
     let setting = c.write.ensures.region ∙ cond-true _ _ _ (eq-eqb _ x part) in
     record {
-      number = c.put-node.ensures.number;
-      buffer = put_record at x (at + 8 - at) (at + 8 + c.width-of.result - (at + 8)) xs _ _ eight (ap length setting ∙ g.met.T.Setting.form_is_wide _) (omega arith) (omega arith) room
+      number = c.put_node.ensures.number;
+      buffer = put_record at x (at + 8 - at) (at + 8 + c.width_of.result - (at + 8)) xs _ _ eight (ap length setting ∙ g.met.T.Setting.form_is_wide _) (omega arith) (omega arith) room
           ∙ ap₂ (λ a b. take at xs ++ ((a ++ b) ++ drop (at + (8 + x)) xs)) number setting;
     }

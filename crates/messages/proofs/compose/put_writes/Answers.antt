@@ -7,14 +7,14 @@ use Rattle.std.proofs.ByRecursion.{All-more}
 use Rattle.std.specs.List.{flat_map, AllByRecursion as All}
 use Rattle.messages.proofs.compose.put_writes.Goals as goal
 
-pub put-write-requires : goal.put-write-requires
-put-write-requires g c =
+pub put_write-requires : goal.put_write-requires
+put_write-requires g c =
     let k = write_width g.T.Setting.kind.wide in
     let fits = next_fits c.args.at c.loop-write.write-index (length c.args.writes.now) k _ c.loop-write-test.true c.requires in
     omega (arith, fits, c.loop-write.invariant.1)
 
-pub overflow-add-start : goal.overflow-add-start
-overflow-add-start g c =
+pub overflow_add-start : goal.overflow_add-start
+overflow_add-start g c =
     let k = write_width g.T.Setting.kind.wide in
     let fits = next_fits c.args.at c.loop-write.write-index (length c.args.writes.now) k _ c.loop-write-test.true c.requires in
     omega (arith, fits, c.loop-write.invariant.1)
@@ -28,16 +28,16 @@ loop-write-preserved g c =
     let writes = c.args.writes.now in
     let w = c.write-item.result in
     let before = c.loop-write.buffer in
-    let step : start + (8 + c.width-of-width.result) ≡ start + k = ap (λ x. start + (8 + x)) c.width-of-width.ensures.answer in
+    let step : start + (8 + c.width_of-width.result) ≡ start + k = ap (λ x. start + (8 + x)) c.width_of-width.ensures.answer in
     let fits = next_fits c.args.at i (length writes) k _ c.loop-write-test.true c.requires in
     let room : start + k ≤ length before = omega (arith, fits, c.loop-write.invariant.1) in
     let wide = length_record kind g.met.T.Setting.form_is_wide w in
-    let front = records_more kind k writes i start w before _ c.put-write.new.buffer c.loop-write-test.true c.write-item.is wide room c.put-write.ensures.buffer c.loop-write.invariant.2 in
-    let rest = rest_more kind k start (write_bytes kind w) before c.args.buffer.now c.put-write.new.buffer wide room c.put-write.ensures.buffer c.loop-write.invariant.3 in (
-      All-more Numbered writes i w c.loop-write-test.true c.loop-write.invariant.0 (subst Numbered c.write-item.is c.put-write.ensures.number),
+    let front = records_more kind k writes i start w before _ c.put_write.new.buffer c.loop-write-test.true c.write-item.is wide room c.put_write.ensures.buffer c.loop-write.invariant.2 in
+    let rest = rest_more kind k start (write_bytes kind w) before c.args.buffer.now c.put_write.new.buffer wide room c.put_write.ensures.buffer c.loop-write.invariant.3 in (
+      All-more Numbered writes i w c.loop-write-test.true c.loop-write.invariant.0 (subst Numbered c.write-item.is c.put_write.ensures.number),
       step ∙ next_start c.args.at i k start c.loop-write.invariant.1,
-      ap (λ n. take n c.put-write.new.buffer) step ∙ front,
-      ap (λ n. drop n c.put-write.new.buffer) step ∙ rest ∙ ap (λ n. drop n c.args.buffer.now) (sym step),
+      ap (λ n. take n c.put_write.new.buffer) step ∙ front,
+      ap (λ n. drop n c.put_write.new.buffer) step ∙ rest ∙ ap (λ n. drop n c.args.buffer.now) (sym step),
     )
 
 pub returns : goal.returns

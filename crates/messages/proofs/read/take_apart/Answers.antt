@@ -9,6 +9,6 @@ returns c =
     let m = c.args.message.now in
     let rest = length-between m 6 (length m) (omega arith) in
     let long : 10 ≤ length m = omega (arith, ltb-false) in
-    let field = c.from.ensures ∙ c.from-be-bytes.ensures in
+    let field = c.from.ensures ∙ c.from_be_bytes.ensures in
     let same : c.from.result ≡ length m - 2 = omega arith in
-    whole_header m _ c.from.result _ long field same (take_rest m 6) c.from-be-bytes-snapshot.ensures
+    whole_header m _ c.from.result _ long field same (take_rest m 6) c.from_be_bytes-snapshot.ensures

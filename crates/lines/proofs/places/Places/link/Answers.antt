@@ -3,4 +3,4 @@ use Rattle.lines.proofs.places.Places.link.Goals as goal
 
 pub returns : goal.returns
 unfolding cell
-returns c = c.link-of.ensures
+returns c = c.link_of.ensures

@@ -3,4 +3,4 @@ use Rattle.lines.proofs.places.Places.message.Goals as goal
 
 pub returns : goal.returns
 unfolding cell
-returns c = c.message-of.ensures
+returns c = c.message_of.ensures

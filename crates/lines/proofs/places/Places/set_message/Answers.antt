@@ -9,13 +9,13 @@ unfolding cell
 returns c =
     let bs = c.args.self.now.bytes.now in
     let p = c.args.place in
-    let written = c.put-message.new.cell in
+    let written = c.put_message.new.cell in
     let whole : length written ≡ 1168 =
-    omega (arith, c.put-message.auto.cell, length-between bs (1168 * p) (1168 * p + 1168) (omega arith)) in
-    let here = cell_written bs written p c.requires.0 whole in
+    omega (arith, c.put_message.auto.cell, length-between bs (1168 * p) (1168 * p + 1168) (omega arith)) in
+    let here = cell_written bs written p c.requires.place_bound whole in
     record {
-      changed = changed_at bs written p c.requires.0 whole;
+      changed = changed_at bs written p c.requires.place_bound whole;
       memory = refl;
-      link = ap link_in here ∙ c.put-message.ensures.link;
-      message = ap offered_in here ∙ c.put-message.ensures.message;
+      link = ap link_in here ∙ c.put_message.ensures.link;
+      message = ap offered_in here ∙ c.put_message.ensures.message;
     }

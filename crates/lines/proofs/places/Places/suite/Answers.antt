@@ -3,4 +3,4 @@ use Rattle.lines.proofs.places.Places.suite.Goals as goal
 
 pub returns : goal.returns
 unfolding cell
-returns c = c.suite-of.ensures
+returns c = c.suite_of.ensures

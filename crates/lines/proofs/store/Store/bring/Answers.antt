@@ -9,15 +9,16 @@ pub loop-i-init : goal.loop-i-init
 loop-i-init c =
     let bs = c.args.self.now.places.bytes.now in
     let from = c.args.from in
-    (c.requires.2, refl, refl, refl, reordered_none bs _ (sym (brought_none 0 from (order bs) (omega (arith, length_order bs)))))
+    (c.requires.to_le_from, refl, refl, refl, reordered_none bs _ (sym (brought_none 0 from (order bs) (omega (arith, length_order bs)))))
 
 pub swap-requires : goal.swap-requires
 swap-requires c =
     let bs = c.args.self.now.places.bytes.now in
-    let change = c.loop-i.invariant.4 in (
-      brought_inside bs _ c.loop-i.i c.args.from c.loop-i.auto.i c.requires.1 c.requires.0 change,
-      omega (arith, c.loop-i.auto.i, change.len),
-    )
+    let change = c.loop-i.invariant.4 in
+    record {
+      links_inside = brought_inside bs _ c.loop-i.i c.args.from c.loop-i.auto.i c.requires.from_bound c.requires.links_inside change;
+      i_bound = omega (arith, c.loop-i.auto.i, change.len);
+    }
 
 pub loop-i-preserved : goal.loop-i-preserved
 loop-i-preserved c =
@@ -29,7 +30,7 @@ loop-i-preserved c =
       c.swap.ensures.counts.0 ∙ c.loop-i.invariant.1,
       c.swap.ensures.counts.1 ∙ c.loop-i.invariant.2,
       c.swap.ensures.memory ∙ c.loop-i.invariant.3,
-      brought_step bs _ _ (c.loop-i.i - 1) from (omega (arith, c.loop-i.auto.i)) c.requires.1 change c.swap.ensures.order,
+      brought_step bs _ _ (c.loop-i.i - 1) from (omega (arith, c.loop-i.auto.i)) c.requires.from_bound change c.swap.ensures.order,
     )
 
 pub returns : goal.returns

@@ -8,5 +8,5 @@ invariant-loop-i l =
     (l.to ≤ l.i)
     × (l.self.agreed ≡ l.initial.self.agreed)
     × (l.self.waiting ≡ l.initial.self.waiting)
-    × (l.self.places.bytes.name ≡ l.initial.self.places.bytes.name)
+    × (l.self.places.bytes.ghost_name ≡ l.initial.self.places.bytes.ghost_name)
     × Reordered l.initial.self.places.bytes.now l.self.places.bytes.now (brought 0 l.i l.from (order l.initial.self.places.bytes.now))

@@ -14,5 +14,5 @@ returns c =
     let k = c.args.number - 1 in
     c.message.ensures
     ∙ ap (λ p. (offered_at bs p).message) c.place.ensures.value
-    ∙ sym (ap (λ o. o.message) (agreed_at bs a w k (omega arith) (omega (arith, c.requires.0.room))))
-    ∙ sym (state_message (stored bs a w) a w (sound_store bs a w c.requires.0) k)
+    ∙ sym (ap (λ o. o.message) (agreed_at bs a w k (omega arith) (omega (arith, c.requires.good_store.room))))
+    ∙ sym (state_message (stored bs a w) a w (sound_store bs a w c.requires.good_store) k)

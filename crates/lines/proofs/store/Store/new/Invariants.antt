@@ -8,4 +8,4 @@ invariant-loop-i l =
     (length l.places.bytes.now ≡ length l.initial.places.bytes.now)
     × (rest l.places.bytes.now ≡ rest l.initial.places.bytes.now)
     × ((k : ℕ) → k < l.i → link_at l.places.bytes.now k ≡ k)
-    × (l.places.bytes.name ≡ l.initial.places.bytes.name)
+    × (l.places.bytes.ghost_name ≡ l.initial.places.bytes.ghost_name)

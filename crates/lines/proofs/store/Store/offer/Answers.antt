@@ -14,10 +14,10 @@ returns c =
     let a = s.agreed in
     let w = s.waiting in
     let o : Offered = record { suite = c.args.suite; message = c.args.message.now } in
-    let passed = c.in-ok-check-offer.ensures in
+    let passed = c.in_ok-check_offer.ensures in
     let p : c.place-place.result ≡ get_or (order bs) (a + w) 0 =
     c.place-place.ensures.value ∙ ap (λ i. get_or (order bs) i 0) c.held.ensures.value in
-    let put = c.set-message.ensures in
+    let put = c.set_message.ensures in
     let means = offered_means bs _ a w _ o c.requires passed.room p put.changed put.link put.message in
     let good = offered_good bs _ a w _ o c.requires passed.room p put.changed put.link put.message passed.fits in
     record {

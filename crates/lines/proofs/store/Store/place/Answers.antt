@@ -7,6 +7,6 @@ pub returns : goal.returns
 returns c =
     let bs = c.args.self.now.places.bytes.now in
     let i = c.args.i in
-    let value : c.link.result ≡ get_or (order bs) i 0 = c.link.ensures ∙ sym (order_at bs i c.requires.1) in
-    let inside : get_or (order bs) i 0 < places_used bs = c.requires.0 i c.requires.1 in
+    let value : c.link.result ≡ get_or (order bs) i 0 = c.link.ensures ∙ sym (order_at bs i c.requires.i_bound) in
+    let inside : get_or (order bs) i 0 < places_used bs = c.requires.links_inside i c.requires.i_bound in
     record { value = value; bound = omega arith }

@@ -10,7 +10,7 @@ returns c =
     let head = get_or (view before).queue 0 nothing in
     let done = c.settle.ensures in
     let first : (view before).queue ≡ head ∷ (view after).queue =
-    first_and_others (view before).queue c.requires.2 ∙ ap (λ os. head ∷ os) (sym done.order) in
+    first_and_others (view before).queue c.requires.queue_nonzero ∙ ap (λ os. head ∷ os) (sym done.order) in
     record {
       good = done.good;
       choice = done.serves;

@@ -14,6 +14,6 @@ returns c =
     let value : c.suite.result ≡ (get_or queue k nothing).suite =
     c.suite.ensures
     ∙ ap (λ p. (offered_at bs p).suite) c.place.ensures.value
-    ∙ sym (ap (λ o. o.suite) (queue_at bs s.agreed s.waiting k c.requires.1 c.requires.0.room)) in
-    let sound = queue_sound_at bs s.agreed s.waiting k c.requires.0 c.requires.1 in
+    ∙ sym (ap (λ o. o.suite) (queue_at bs s.agreed s.waiting k c.requires.k_lt_waiting c.requires.good_store.room)) in
+    let sound = queue_sound_at bs s.agreed s.waiting k c.requires.good_store c.requires.k_lt_waiting in
     record { value = value; bound = (omega (arith, value, sound.0), omega (arith, value, sound.1)) }

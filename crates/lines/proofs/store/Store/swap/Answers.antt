@@ -5,8 +5,8 @@ use Rattle.lines.proofs.store.Store.swap.Goals as goal
 pub returns : goal.returns
 returns c =
     let i = c.args.i in
-    let one = c.set-link.ensures in
-    let two = c.set-link-2.ensures in
+    let one = c.set_link.ensures in
+    let two = c.set_link-2.ensures in
     record {
       counts = (refl, refl);
       memory = two.memory ∙ one.memory;

@@ -13,10 +13,10 @@ returns c =
     let before = stored bs a w in
     let end : c.loop-k.k ≡ w = omega (arith, c.waiting-k-end.ensures.value) in
     let found = subst (λ k. Soonest c.args.turn before.queue k c.loop-k.best c.loop-k.least) end c.loop-k.invariant in
-    let sound = sound_store bs a w c.requires.0 in
+    let sound = sound_store bs a w c.requires.good_store in
     record {
       bound = found.there;
-      first = soonest_first before a w c.args.turn _ _ sound c.requires.2 c.requires.3 found;
-      suite = soonest_picked before a w c.args.turn _ _ sound c.requires.2 c.requires.3 found;
-      passed = soonest_passes before a w c.args.turn _ _ sound c.requires.2 c.requires.3 found;
+      first = soonest_first before a w c.args.turn _ _ sound c.requires.le_turn c.requires.turn_le_most_suites found;
+      suite = soonest_picked before a w c.args.turn _ _ sound c.requires.le_turn c.requires.turn_le_most_suites found;
+      passed = soonest_passes before a w c.args.turn _ _ sound c.requires.le_turn c.requires.turn_le_most_suites found;
     }
