@@ -1,5 +1,6 @@
 // Why a line was not answered.
 use std::alloc::{AllocError, AllocFailed};
+use anyhow::anyhow;
 use std::io;
 
 #[derive(Drop)]
@@ -20,7 +21,7 @@ impl From<AllocError> for Stop {
 
 impl<T: Drop> From<AllocFailed<T>> for Stop {
     fn from(_e: AllocFailed<T>) -> Stop {
-        Stop::Failed("no memory".into())
+        Stop::Failed(anyhow!("no memory"))
     }
 }
 
