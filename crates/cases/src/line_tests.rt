@@ -19,7 +19,10 @@ fn bytes_past_the_last_place_are_kept(rt: HostRuntime) -> Result<(), Fail> {
     let mut memory = vec![in rt.alloc(); 0xabu8; 2 * 1168 + 3]?;
     assert!(rt; use_line(FirstCome::new(memory.as_mut_slice())).is_ok());
     assert!(rt; use_line(Turn::new(memory.as_mut_slice())).is_ok());
-    assert_eq!(rt; &memory.as_slice()[2 * 1168..], [0xab, 0xab, 0xab].as_slice());
+    assert_eq!(rt;
+        &memory.as_slice()[2 * 1168..],
+        [0xab, 0xab, 0xab].as_slice()
+    );
     Ok(())
 }
 

@@ -26,7 +26,10 @@ fn first_message(rt: HostRuntime) -> Result<(), Fail> {
         &mut buffer,
     )?;
     assert_eq!(rt; length, 287);
-    assert_eq!(rt; &buffer[0..10], [1, 0x1d, 1, 1, 1, 1, 0, 0, 0, 0].as_slice());
+    assert_eq!(rt;
+        &buffer[0..10],
+        [1, 0x1d, 1, 1, 1, 1, 0, 0, 0, 0].as_slice()
+    );
     assert_eq!(rt; buffer[286], 0);
     assert_eq!(rt; buffer[287], 0xaa, "the buffer's rest is kept");
     Ok(())

@@ -15,7 +15,7 @@
 --   stored_offer   after an offer
 --   stored_settle  after a message of the queue was settled
 --   FirstOfSuite none before it in the queue is for its suite
-use Rattle.std.specs.Prelude.{◌≡◌, ℕ, ◌+◌, ◌<◌, ◌≤◌, List, [], ◌∷◌, ◌++◌, map, length, get_or, take, Result, ◌≢◌, slice_index_or}
+use Rattle.std.specs.Prelude.{ℕ, ◌+◌, ◌<◌, ◌≤◌, List, [], ◌∷◌, ◌++◌, map, length, get_or, take, Result, ◌≢◌, slice_index_or}
 use Rattle.std.specs.Borrow.{MutBor}
 use Rattle.limits.specs.Limits.{most_suites, longest_message}
 use Rattle.refusals.specs.declared.Refusal.{Refusal}

@@ -1,6 +1,6 @@
 // Why a line was not answered.
-use std::alloc::{AllocError, AllocFailed};
 use anyhow::anyhow;
+use std::alloc::{AllocError, AllocFailed};
 use std::io;
 
 #[derive(Drop)]

@@ -1,10 +1,10 @@
 -- What follows where no check of a message fails, and what reading answers.
-use Rattle.std.proofs.Common.{◌≡◌, ℕ, zero, suc, ◌+◌, ◌-◌, ◌<◌, ◌≤◌, Bool, true, false, cond, not, ◌&&◌, ◌||◌, eqb, ltb, leb, List, [], ◌∷◌, ◌++◌, length, get_or, take, drop, is_some, IfOk, Some, None, Ok, Err, Option, Result, sym, refl, ap, ◌∙◌, subst, arith}
+use Rattle.std.proofs.Common.{◌≡◌, ℕ, zero, suc, ◌+◌, ◌<◌, ◌≤◌, true, false, not, ◌&&◌, eqb, ltb, leb, List, [], ◌∷◌, ◌++◌, length, get_or, is_some, IfOk, Some, None, Ok, Err, Option, Result, sym, refl, ap, ◌∙◌, subst, arith}
 use Rattle.number_bytes.specs.Bytes.{number}
 use Rattle.messages.proofs.Judging.{start_le, known_decides, given_decides, none_wrong, judged_first, judged_value, fault_of_frame, fault_of_writes, no_fault}
 use Rattle.messages.specs.Composing.{outside}
 use Rattle.messages.specs.Layout.{write_start, message_length}
-use Rattle.messages.specs.Reading.{Check, checks, frame_checks, write_checks, first_fault, judged, header_in, read_answer, node_in, setting_in, known, given_before, summary_in, write_in, ExactFault, Faultless}
+use Rattle.messages.specs.Reading.{Check, checks, frame_checks, write_checks, first_fault, judged, header_in, read_answer, node_in, setting_in, known, given_before, write_in, ExactFault, Faultless}
 use Rattle.messages.specs.declared.fault.Fault.{Fault}
 use Rattle.messages.specs.declared.parts.Header.{Header}
 use Rattle.messages.specs.declared.parts.Write.{Write}

@@ -1,5 +1,5 @@
 -- The header taken apart byte by byte.
-use Rattle.std.proofs.Common.{◌≡◌, ℕ, ◌+◌, ◌-◌, ◌*◌, ◌≤◌, true, false, not, ◌||◌, eqb, ltb, List, length, get_or, drop, Some, Option, sym, ap, ◌∙◌, arith}
+use Rattle.std.proofs.Common.{◌≡◌, ℕ, ◌+◌, ◌-◌, ◌*◌, ◌≤◌, false, not, ◌||◌, eqb, ltb, List, length, get_or, drop, Some, sym, ap, ◌∙◌, arith}
 use Rattle.number_bytes.proofs.Numbers.{number_of_two, number_of_four}
 use Rattle.number_bytes.specs.Bytes.{number}
 use Rattle.messages.specs.Reading.{raw_header_in}

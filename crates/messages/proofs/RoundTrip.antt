@@ -1,14 +1,14 @@
 -- Reading a message that was composed returns all its fields: first the parts of the message, then its checks, none of which
 -- finds anything wrong.
-use Rattle.std.proofs.Common.{◌≡◌, ℕ, zero, suc, ◌+◌, ◌-◌, ◌*◌, ◌^◌, ◌<◌, ◌≤◌, Bool, true, false, cond, not, ◌&&◌, ◌||◌, eqb, ltb, leb, List, [], ◌∷◌, ◌++◌, map, length, get_or, take, drop, is_some, Some, None, Ok, Option, sym, refl, ap, ◌∙◌, subst, ap₂, arith}
+use Rattle.std.proofs.Common.{◌≡◌, ℕ, zero, suc, ◌+◌, ◌-◌, ◌*◌, ◌^◌, ◌<◌, ◌≤◌, Bool, true, false, not, ◌&&◌, eqb, ltb, leb, List, [], ◌∷◌, ◌++◌, map, length, get_or, take, drop, is_some, Some, None, Ok, sym, refl, ap, ◌∙◌, arith}
 use Rattle.number_bytes.proofs.Numbers.{number_big_endian}
 use Rattle.number_bytes.proofs.Parts.{nth_joined, length_joined}
-use Rattle.number_bytes.specs.Bytes.{big_endian, number}
-use Rattle.messages.proofs.Judging.{start_le, start_next, known_decides, given_decides, none_found}
+use Rattle.number_bytes.specs.Bytes.{number}
+use Rattle.messages.proofs.Judging.{start_le, known_decides, given_decides, none_found}
 use Rattle.messages.proofs.Records.{length_record}
 use Rattle.messages.specs.Composing.{write_bytes, message, Composes, Numbered, outside}
 use Rattle.messages.specs.Layout.{write_start, message_length}
-use Rattle.messages.specs.Reading.{Check, frame_checks, write_checks, checks, first_fault, judged, node_in, setting_in, known, given_before, header_in, summary_in, write_in, read_answer}
+use Rattle.messages.specs.Reading.{frame_checks, write_checks, checks, first_fault, judged, node_in, setting_in, known, given_before, header_in, summary_in, write_in, read_answer}
 use Rattle.messages.specs.Returning.{Fitting, Returned, header_with}
 use Rattle.messages.specs.declared.parts.Origin.{Origin}
 use Rattle.messages.specs.declared.parts.Write.{Write}

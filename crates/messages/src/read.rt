@@ -10,8 +10,8 @@ ghost use Rattle.std.specs.List.{between, range_with_len, flat_map};
 use crate::fault::{Cause, Fault};
 use crate::layout::{VERSION, write_start};
 use crate::parts::{Header, Origin, Write};
-use number_bytes::u64_at;
 use limits::{HEADER, NODE_WIDTH, SLOTS, WRITES};
+use number_bytes::u64_at;
 use settings::kind::Setting;
 use summaries::kind::Summary;
 

@@ -1,5 +1,5 @@
 -- The laws of numbers written as bytes, each way and back, and what a slice's bytes write.
-use Rattle.std.proofs.Common.{◌≡◌, ℕ, zero, suc, ◌+◌, ◌-◌, ◌*◌, ◌/◌, ◌%◌, ◌^◌, ◌<◌, ◌≤◌, List, [], ◌∷◌, ◌++◌, length, get_or, take, drop, replicate, sym, refl, ap, ◌∙◌, subst, ap₂, add_assoc, mod-lt, mod-eq_of_lt, mul_assoc, add-mul, zero-mul, div-one, arith, lit<}
+use Rattle.std.proofs.Common.{◌≡◌, ℕ, zero, suc, ◌+◌, ◌-◌, ◌*◌, ◌/◌, ◌%◌, ◌^◌, ◌<◌, ◌≤◌, List, [], ◌∷◌, length, get_or, take, drop, replicate, sym, refl, ap, ◌∙◌, subst, ap₂, add_assoc, mod-lt, mod-eq_of_lt, mul_assoc, add-mul, zero-mul, div-one, arith, lit<}
 use native.Mathlib.Nat.{mod-one, pow-succ', one-le-pow}
 use lib.Arith.{mod-mul}
 use Rattle.std.specs.List.{between, AllByRecursion as All}

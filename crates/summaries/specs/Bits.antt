@@ -1,5 +1,5 @@
 -- One bit of a number, and one bit of a list of bytes: what setting one does to each.
-use Rattle.std.specs.Prelude.{◌≡◌, ℕ, zero, suc, ◌+◌, ◌-◌, ◌*◌, ◌/◌, ◌%◌, ◌^◌, ◌<◌, ◌≤◌, Bool, true, false, ◌||◌, ◌⊎◌, List, length, set, ◌==◌, ◌≢◌, bit_or, nat_eq, slice_index, refl}
+use Rattle.std.specs.Prelude.{◌≡◌, ℕ, suc, ◌+◌, ◌-◌, ◌/◌, ◌%◌, ◌^◌, ◌<◌, ◌||◌, ◌⊎◌, List, length, ◌==◌, ◌≢◌, bit_or, nat_eq, slice_index}
 use Rattle.std.proofs.Common.{inl, inr, sym, ap, ◌∙◌, pow-suc, arith}
 use Rattle.std.proofs.Math.Nat.{div-eq_of_lt, div_self, mul-mod_left}
 use Rattle.std.proofs.lemmas.Nat.{pow_pos, pow-add, pow_below, shl-shr, or_shr, or_mod}

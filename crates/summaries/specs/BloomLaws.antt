@@ -2,7 +2,6 @@
 use Rattle.std.specs.Prelude.{◌≡◌, ℕ, zero, suc, ◌+◌, ◌*◌, ◌/◌, ◌%◌, ◌^◌, ◌<◌, Bool, true, false, ◌||◌, List, [], ◌∷◌, length, replicate, Decides, fold, ◌==◌, nat_eq, slice_index, refl}
 use Rattle.std.proofs.Common.{sym, ap, ap₂, ◌∙◌, mod-lt, add-one, arith, lit<}
 use Rattle.std.proofs.Math.Nat.{zero-div}
-use Rattle.std.specs.Int.Bits.{bit_or}
 use Rattle.number_bytes.specs.Bytes.{Byte}
 use Rattle.number_bytes.proofs.Numbers.{bytes_zeros}
 use Rattle.std.proofs.lemmas.Nat.{or_lt, pow_below}
@@ -10,7 +9,7 @@ use Rattle.std.proofs.ByRecursion.{All-set}
 use Rattle.std.proofs.lemmas.List.{length-set}
 use Rattle.std.proofs.lemmas.Bool.{and_from, both_ways}
 use Rattle.std.proofs.lemmas.Bool.Decides.{Decides-at, Decides-eqb, Decides-below_or, Decides-below_and, Decides-by_or}
-use Rattle.std.specs.List.{HoldsAt, ContainsAt as Has, AllByRecursion as All}
+use Rattle.std.specs.List.{ContainsAt as Has, AllByRecursion as All}
 use Rattle.summaries.specs.Bits.{bit_with}
 use Rattle.summaries.specs.Blooms as blooms
 use Rattle.summaries.specs.Blooms.{hashes, position, with_bit, has_bit, marked, packed_bloom, names_bloom, IsPosition, SetsExactly}

@@ -12,7 +12,7 @@
 --   bloom           the kind
 --   IsPosition     a number is one of a node's twelve positions
 --   SetsExactly    packing sets exactly the positions of the listed nodes
-use Rattle.std.specs.Prelude.{◌≡◌, ℕ, zero, suc, ◌+◌, ◌*◌, ◌/◌, ◌%◌, ◌^◌, ◌<◌, Bool, true, ◌&&◌, List, length, set, replicate, Decides, fold, ◌==◌, bit_or, slice_index, slice_set}
+use Rattle.std.specs.Prelude.{◌≡◌, ℕ, zero, suc, ◌+◌, ◌*◌, ◌/◌, ◌%◌, ◌^◌, ◌<◌, Bool, true, ◌&&◌, List, length, replicate, Decides, fold, ◌==◌, bit_or, slice_index, slice_set}
 use Rattle.std.specs.List.{HoldsAt}
 use Rattle.summaries.specs.Hashes.{murmur2}
 use Rattle.summaries.specs.Kinds.{SummaryKind}

@@ -8,8 +8,8 @@ ghost use Rattle.summaries.specs.ExactLaws.{packed_wide, packed_bytes, names_pac
 ghost use Rattle.std.proofs.Common.{rules};
 
 use crate::kind::Summary;
-use number_bytes::u64_at;
 use limits::{NODE_WIDTH, READS};
+use number_bytes::u64_at;
 use refusals::Refusal;
 
 /// A summary of a count byte, the numbers in order, and zeros.

@@ -1,4 +1,4 @@
-use Rattle.std.proofs.Common.{◌≡◌, ◌≤◌, arith, rules}
+use Rattle.std.proofs.Common.{arith, rules}
 use Rattle.messages.proofs.Whole.{longest}
 use Rattle.messages.proofs.compose.measure.Goals as goal
 

@@ -1,4 +1,4 @@
-use Rattle.std.proofs.Common.{◌≡◌, ◌+◌, ◌*◌, ◌++◌, length, take, drop}
+use Rattle.std.proofs.Common.{◌≡◌, ◌+◌, ◌*◌, ◌++◌, take, drop}
 use Rattle.messages.specs.Composing.{write_bytes, Numbered}
 use Rattle.messages.specs.Layout.{write_width}
 use Rattle.std.specs.List.{flat_map, AllByRecursion as All}

@@ -1,4 +1,4 @@
-use Rattle.std.proofs.Common.{◌≡◌, ◌+◌, min, length, ap, ◌∙◌, arith}
+use Rattle.std.proofs.Common.{◌+◌, min, length, ap, ◌∙◌, arith}
 use Rattle.messages.proofs.Clipped.{clipped}
 use Rattle.messages.proofs.read.summary_of.Goals as goal
 
