@@ -7,7 +7,7 @@ use Rattle.cases.specs.Widest.{all_zero, blank_form, blank_reading, packed_touch
 use Rattle.cases.specs.declared.widest.Blank.{Blank}
 use Rattle.std.proofs.lemmas.List.{at_drop_more}
 use Rattle.std.proofs.lemmas.Bool.{eq-eqb, ne_eqb, eqb-true, and_parts, and_left, cond_both}
-use Rattle.std.specs.List.{AllByRecursion as All}
+use Rattle.std.specs.List.{AllByRecursion}
 
 -- ---- the loop
 
@@ -40,5 +40,5 @@ only_blank bs s e = by (length bs == 32) (all_zero bs) refl refl e
     by true false w z r = let q : ◌≡◌ {A = ℕ} 0 1 = cc in absurd (omega arith)
     by false zero w z r = let q : ◌≡◌ {A = ℕ} 0 1 = cc in absurd (omega arith)
 
-pub bytes_touched : (ns : List ℕ) → All Byte (packed_touched ns)
+pub bytes_touched : (ns : List ℕ) → AllByRecursion Byte (packed_touched ns)
 bytes_touched ns = (cond_both _ 1 0 Byte (λ _. omega arith) (λ _. omega arith), bytes_zeros 511)

@@ -7,7 +7,7 @@ use Rattle.lines.specs.Orders.{Offered, lane}
 use Rattle.lines.specs.Stores.{Sound, nothing, FirstOfSuite}
 use Rattle.std.proofs.lemmas.Bool.{eqb-true, eq-eqb, ne_eqb, cond-true, cond-false}
 use Rattle.std.proofs.lemmas.Bool.Decides.{nat_tests}
-use Rattle.std.specs.List.{remove, AllByRecursion as All}
+use Rattle.std.specs.List.{remove, AllByRecursion}
 
 -- ---- one more at the end
 
@@ -82,11 +82,11 @@ lane_removed q k u h first = by (eqb u (get_or q k nothing).suite) refl (less q 
 
 -- ---- what holds of a queue of sound messages
 
-pub lane_fits : (q : List Offered) (u : ℕ) → All Sound q → All AllowedLength (lane u q)
+pub lane_fits : (q : List Offered) (u : ℕ) → AllByRecursion Sound q → AllByRecursion AllowedLength (lane u q)
 lane_fits [] u h = tt
 lane_fits (o ∷ os) u h = by (eqb u o.suite) (lane_fits os u h.1)
   where
-    by : (t : Bool) → All AllowedLength (lane u os) → All AllowedLength (cond t (o.message ∷ lane u os) (lane u os))
+    by : (t : Bool) → AllByRecursion AllowedLength (lane u os) → AllByRecursion AllowedLength (cond t (o.message ∷ lane u os) (lane u os))
     by true fits = ((h.0.2, h.0.3), fits)
     by false fits = fits
 
@@ -98,7 +98,7 @@ lane_empty (o ∷ os) u none =
     ∙ lane_empty os u (λ j small e. none (suc j) (omega arith) e)
 
 -- all lanes together are as long as the queue
-pub lanes_long : (q : List Offered) → All Sound q → waiting_up_to 8 (λ u. lane u q) ≡ length q
+pub lanes_long : (q : List Offered) → AllByRecursion Sound q → waiting_up_to 8 (λ u. lane u q) ≡ length q
 unfolding waiting_up_to
 lanes_long [] h = none 8
   where

@@ -12,15 +12,15 @@ use Rattle.std.proofs.lemmas.List.Edits.{length-between, get_or-between}
 use Rattle.std.proofs.ByRecursion.{All-from_get_or, All-get_or, All-map, All-weaker}
 use Rattle.std.proofs.lemmas.List.{append_assoc, length-map, length-take-le, get_or-take, map-append}
 use Rattle.std.proofs.lemmas.Bool.{both_ways}
-use Rattle.std.specs.List.{between, remove, AllByRecursion as All}
+use Rattle.std.specs.List.{between, remove, AllByRecursion}
 
 -- what always holds of a store, by what it means and how much it holds
 pub record SoundStore (s : Stored) (agreed waiting : ℕ) : Type 0 where
   pub agreed_long : length s.agreed ≡ agreed
   pub queue_long : length s.queue ≡ waiting
   pub room : agreed + waiting ≤ s.limit
-  pub agreed_sound : All Sound s.agreed
-  pub queue_sound : All Sound s.queue
+  pub agreed_sound : AllByRecursion Sound s.agreed
+  pub queue_sound : AllByRecursion Sound s.queue
 
 pub sound_store : (bs : List ℕ) (a w : ℕ) → Good bs a w → SoundStore (stored bs a w) a w
 unfolding stored

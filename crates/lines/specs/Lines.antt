@@ -29,7 +29,7 @@ use Rattle.std.specs.Prelude.{◌≡◌, ℕ, zero, suc, ◌+◌, ◌-◌, ◌<�
 use Rattle.limits.specs.Limits.{most_suites, most_held, longest_message, outside}
 use Rattle.refusals.specs.declared.Refusal.{Refusal}
 use Rattle.refusals.specs.declared.Refusal.TheVariants.{MemorySize, NoSuchSlot, LineFull, NothingWaiting, MessageLength, NoSuchMessage}
-use Rattle.std.specs.List.{AllByRecursion as All}
+use Rattle.std.specs.List.{AllByRecursion}
 
 -- what a line means: the agreed messages, in their order; for each suite the messages that wait, the first offered first;
 -- and how many messages it can hold
@@ -71,8 +71,8 @@ AllowedLength message = (1 ≤ length message) × (length message ≤ longest_me
 -- has a length that a message may have, and nothing waits for a suite that is not 1 to 8
 pub record Lawful (m : LineState) : Type 0 where
   pub within_limit : held m ≤ m.limit
-  pub agreed_fit : All AllowedLength m.agreed
-  pub waiting_fit : (u : ℕ) → All AllowedLength (m.waiting u)
+  pub agreed_fit : AllByRecursion AllowedLength m.agreed
+  pub waiting_fit : (u : ℕ) → AllByRecursion AllowedLength (m.waiting u)
   pub suites_only : (u : ℕ) → outside most_suites u ≡ true → m.waiting u ≡ []
 
 -- ---- offer

@@ -11,7 +11,7 @@ use Rattle.messages.specs.declared.parts.Write.{Write}
 use Rattle.std.proofs.lemmas.List.Edits.{length-between}
 use Rattle.std.proofs.lemmas.Bool.{eqb-true, eqb-false, ltb-false, not-false, or_parts, lt-ltb, le-leb, and_from, cond-true, both_ways}
 use Rattle.settings.specs.Kinds.{SettingKind}
-use Rattle.std.specs.List.{between, range_with_len, flat_map, ContainsAt as Has, AllByRecursion as All}
+use Rattle.std.specs.List.{between, range_with_len, flat_map, ContainsAt as Has, AllByRecursion}
 use Rattle.std.specs.Option.{option_map}
 use Rattle.summaries.specs.Kinds.{SummaryKind}
 
@@ -26,20 +26,20 @@ not_outside most n h =
     by (suc k) other = omega arith
 
 -- what holds of pieces joined holds of each piece
-all_left : {Y : Type 0} (P : Y → Type 0) (xs ys : List Y) → All P (xs ++ ys) → All P xs
+all_left : {Y : Type 0} (P : Y → Type 0) (xs ys : List Y) → AllByRecursion P (xs ++ ys) → AllByRecursion P xs
 all_left P [] ys h = tt
 all_left P (x ∷ xs) ys h = (h.0, all_left P xs ys h.1)
 
-all_right : {Y : Type 0} (P : Y → Type 0) (xs ys : List Y) → All P (xs ++ ys) → All P ys
+all_right : {Y : Type 0} (P : Y → Type 0) (xs ys : List Y) → AllByRecursion P (xs ++ ys) → AllByRecursion P ys
 all_right P [] ys h = h
 all_right P (x ∷ xs) ys h = all_right P xs ys h.1
 
-all_piece : {Y : Type 0} (P : Y → Type 0) (f : ℕ → List Y) (a n i : ℕ) → All P (flat_map f (range_with_len a n)) → i < n → All P (f (a + i))
+all_piece : {Y : Type 0} (P : Y → Type 0) (f : ℕ → List Y) (a n i : ℕ) → AllByRecursion P (flat_map f (range_with_len a n)) → i < n → AllByRecursion P (f (a + i))
 all_piece P f a zero i h low = absurd (omega arith)
-all_piece P f a (suc n) zero h low = let first : a ≡ a + 0 = omega arith in subst (λ k. All P (f k)) first (all_left P (f a) _ h)
+all_piece P f a (suc n) zero h low = let first : a ≡ a + 0 = omega arith in subst (λ k. AllByRecursion P (f k)) first (all_left P (f a) _ h)
 all_piece P f a (suc n) (suc i) h low =
     let next : a + 1 + i ≡ a + suc i = omega arith in
-    subst (λ k. All P (f k)) next (all_piece P f (a + 1) n i (all_right P (f a) _ h) (omega arith))
+    subst (λ k. AllByRecursion P (f k)) next (all_piece P f (a + 1) n i (all_right P (f a) _ h) (omega arith))
 
 -- an option with something in it
 there : {T : Type 0} (o : Option T) → is_some o ≡ true → (x : T) × (o ≡ Some x)
@@ -47,17 +47,17 @@ there None h = let z : ◌≡◌ {A = ℕ} 0 1 = cc in absurd (omega arith)
 there (Some x) h = (x, refl)
 
 module _ {T : Type 0} (S : SummaryKind) (K : SettingKind T) (suites stamp : ℕ) (nodes m : List ℕ)
-    (fine : All (λ c. c.0 ≡ false) (checks S K suites stamp nodes m)) where
+    (fine : AllByRecursion (λ c. c.0 ≡ false) (checks S K suites stamp nodes m)) where
   count_parts : (outside 16 (get_or m 5 0) ≡ false) × (not (eqb (length m) (message_length S.wide K.wide (get_or m 5 0))) ≡ false)
   count_parts = or_parts (outside 16 (get_or m 5 0)) _ fine.1.1.1.1.0
 
   long : length m ≡ message_length S.wide K.wide (get_or m 5 0)
   long = eqb-true _ _ (not-false _ count_parts.1)
 
-  write_fine : (i : ℕ) → i < get_or m 5 0 → All (λ c. c.0 ≡ false) (write_checks S.wide K nodes m i)
+  write_fine : (i : ℕ) → i < get_or m 5 0 → AllByRecursion (λ c. c.0 ≡ false) (write_checks S.wide K nodes m i)
   write_fine i h =
       let same : 0 + i ≡ i = omega arith in
-      subst (λ k. All (λ c. c.0 ≡ false) (write_checks S.wide K nodes m k)) same
+      subst (λ k. AllByRecursion (λ c. c.0 ≡ false) (write_checks S.wide K nodes m k)) same
       (all_piece (λ c. c.0 ≡ false) (write_checks S.wide K nodes m) 0 (get_or m 5 0) i fine.1.1.1.1.1.1 h)
 
   node_parts : (i : ℕ) → i < get_or m 5 0 → (not (known nodes (node_in S.wide K.wide m i)) ≡ false) × (given_before S.wide K.wide m (node_in S.wide K.wide m i) i ≡ false)

@@ -7,7 +7,7 @@ use Rattle.messages.specs.declared.parts.Header.{Header}
 use Rattle.std.proofs.lemmas.List.{at_drop_more, at_drop_all}
 use Rattle.std.proofs.lemmas.Bool.{eq-eqb, ne_eqb, or_from, or_left, cond-true, cond-false}
 use Rattle.std.proofs.lemmas.Bool.Decides.{Decides-eqb, Decides-below_or, Decides-by_or}
-use Rattle.std.specs.List.{range_with_len, flat_map, HoldsAt, AllByRecursion as All}
+use Rattle.std.specs.List.{range_with_len, flat_map, HoldsAt, AllByRecursion}
 
 -- ---- where writes begin
 
@@ -71,18 +71,18 @@ first_before (c ∷ xs) ys f h = by (first_before xs ys f) c.0 refl
     by again false e = cond-false c.0 _ _ e ∙ again (sym (cond-false c.0 (Some c.1) (first_fault xs) e) ∙ h)
 
 -- without a fault no check finds anything
-pub none_wrong : (cs : List Check) → first_fault cs ≡ None → All (λ c. c.0 ≡ false) cs
+pub none_wrong : (cs : List Check) → first_fault cs ≡ None → AllByRecursion (λ c. c.0 ≡ false) cs
 none_wrong [] h = tt
 none_wrong (c ∷ cs) h = by (none_wrong cs) c.0 refl
   where
-    by : (first_fault cs ≡ None → All (λ d. d.0 ≡ false) cs) → (b : Bool) → c.0 ≡ b → (c.0 ≡ false) × All (λ d. d.0 ≡ false) cs
+    by : (first_fault cs ≡ None → AllByRecursion (λ d. d.0 ≡ false) cs) → (b : Bool) → c.0 ≡ b → (c.0 ≡ false) × AllByRecursion (λ d. d.0 ≡ false) cs
     by again true e =
         let found : Some c.1 ≡ None = sym (cond-true c.0 (Some c.1) (first_fault cs) e) ∙ h in
         let z : ◌≡◌ {A = ℕ} 0 1 = cc in absurd (omega arith)
     by again false e = (e, again (sym (cond-false c.0 (Some c.1) (first_fault cs) e) ∙ h))
 
 -- where no check finds anything there is no fault
-pub none_found : (cs : List Check) → All (λ c. c.0 ≡ false) cs → first_fault cs ≡ None
+pub none_found : (cs : List Check) → AllByRecursion (λ c. c.0 ≡ false) cs → first_fault cs ≡ None
 none_found [] h = refl
 none_found (c ∷ cs) h = cond-false c.0 (Some c.1) (first_fault cs) h.0 ∙ none_found cs h.1
 

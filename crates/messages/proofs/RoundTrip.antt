@@ -16,7 +16,7 @@ use Rattle.std.proofs.ByRecursion.{All-get_or, All-append}
 use Rattle.std.proofs.lemmas.List.{append-nil, length-append, length-map, take_at, take-take, drop_at, drop-drop, drop-take, get_or-map}
 use Rattle.std.proofs.lemmas.Bool.{eq-eqb, ne_eqb, le-ltb, lt-ltb, le-leb, and_from, or_from, cond-true}
 use Rattle.settings.specs.Kinds.{SettingKind}
-use Rattle.std.specs.List.{between, range_with_len, flat_map, ContainsAt as Has, AllByRecursion as All}
+use Rattle.std.specs.List.{between, range_with_len, flat_map, ContainsAt as Has, AllByRecursion}
 use Rattle.std.specs.Option.{option_map}
 use Rattle.summaries.specs.Kinds.{SummaryKind}
 
@@ -25,7 +25,7 @@ inside : (most n : ℕ) → 1 ≤ n → n ≤ most → outside most n ≡ false
 inside most n low high = or_from (eqb n 0) (ltb most n) (ne_eqb n 0 (λ e. omega arith)) (le-ltb most n high)
 
 -- what holds of the pieces holds of them joined
-all_joined : {Y : Type 0} (P : Y → Type 0) (f : ℕ → List Y) (a n : ℕ) → ((i : ℕ) → a ≤ i → i < a + n → All P (f i)) → All P (flat_map f (range_with_len a n))
+all_joined : {Y : Type 0} (P : Y → Type 0) (f : ℕ → List Y) (a n : ℕ) → ((i : ℕ) → a ≤ i → i < a + n → AllByRecursion P (f i)) → AllByRecursion P (flat_map f (range_with_len a n))
 all_joined P f a zero h = tt
 all_joined P f a (suc n) h =
     All-append P (f a) (flat_map f (range_with_len (a + 1) n)) (h a (omega arith) (omega arith)) (all_joined P f (a + 1) n (λ i low high. h i (omega arith) (omega arith)))
@@ -86,7 +86,7 @@ module _ {T : Type 0} (S : SummaryKind) (K : SettingKind T)
   setting_reads : (i : ℕ) (w : Write T) → i < length writes → K.reading (setting_in S.wide K.wide m i) ≡ Some (get_or writes i w).setting
   setting_reads i w h = ap K.reading (setting_part i w h) ∙ reads_back (get_or writes i w).setting
 
-  write_there : All Numbered writes → (i : ℕ) (w : Write T) → i < length writes → write_in S K m i ≡ Some (get_or writes i w)
+  write_there : AllByRecursion Numbered writes → (i : ℕ) (w : Write T) → i < length writes → write_in S K m i ≡ Some (get_or writes i w)
   write_there numbered i w h =
       let next = start_le S.wide K.wide (i + 1) (length writes) (omega arith) in
       let there : (ltb i (length writes) && leb (write_start S.wide K.wide (i + 1)) (length m)) ≡ true =
@@ -95,15 +95,15 @@ module _ {T : Type 0} (S : SummaryKind) (K : SettingKind T)
       ∙ ap (option_map (λ s. record { node = node_in S.wide K.wide m i; setting = s })) (setting_reads i w h)
       ∙ ap (λ n. Some (record { node = n; setting = (get_or writes i w).setting })) (node_part i w h (All-get_or Numbered writes i w h numbered))
 
-  pub returned : from.snapshot < 2 ^ 32 → All Numbered writes → Returned S K from reads writes m
+  pub returned : from.snapshot < 2 ^ 32 → AllByRecursion Numbered writes → Returned S K from reads writes m
   returned small numbered = record { header = header_part small; summary = summary_part; each = write_there numbered }
 
   -- ---- the checks
 
   module _ (room n suites stamp : ℕ) (nodes : List ℕ) (fits : Composes S K from (length reads) (length writes) room n)
-      (snapshot_fits : from.snapshot < 2 ^ 32) (numbered : All Numbered writes)
+      (snapshot_fits : from.snapshot < 2 ^ 32) (numbered : AllByRecursion Numbered writes)
       (fitting : Fitting suites stamp nodes from (map (λ w. w.node) writes)) where
-    frame_fine : All (λ c. c.0 ≡ false) (frame_checks S.wide K.wide suites stamp m)
+    frame_fine : AllByRecursion (λ c. c.0 ≡ false) (frame_checks S.wide K.wide suites stamp m)
     frame_fine =
         let long = length_message in
         let count = fits.length_is in
@@ -151,7 +151,7 @@ module _ {T : Type 0} (S : SummaryKind) (K : SettingKind T)
             let there : i < length (map (λ w. w.node) writes) = omega (arith, length-map writes (λ w. w.node)) in
             absurd (fitting.different twice.0 i twice.1 there (sym (node_is twice.0 (omega (arith, twice.1))) ∙ twice.2 ∙ node_is i h))
 
-    write_fine : (i : ℕ) → i < length writes → All (λ c. c.0 ≡ false) (write_checks S.wide K nodes m i)
+    write_fine : (i : ℕ) → i < length writes → AllByRecursion (λ c. c.0 ≡ false) (write_checks S.wide K nodes m i)
     write_fine i h = (
       or_from (not (known nodes (node_in S.wide K.wide m i))) _ (ap not (node_known i h)) (node_new i h),
       (ap (λ o. not (is_some o)) (setting_reads i some h), tt),

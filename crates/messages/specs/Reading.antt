@@ -39,7 +39,7 @@ use Rattle.messages.specs.declared.parts.Header.{Header}
 use Rattle.messages.specs.declared.parts.Write.{Write}
 use Rattle.messages.specs.declared.read.RawHeader.{RawHeader}
 use Rattle.settings.specs.Kinds.{SettingKind}
-use Rattle.std.specs.List.{between, range_with_len, flat_map, HoldsAt, ContainsAt as Has, AllByRecursion as All}
+use Rattle.std.specs.List.{between, range_with_len, flat_map, HoldsAt, ContainsAt as Has, AllByRecursion}
 use Rattle.std.specs.Option.{option_map}
 use Rattle.summaries.specs.Kinds.{SummaryKind}
 
@@ -150,7 +150,7 @@ write_in S K m i =
 
 -- without a fault no check fails, and a fault is that of a failing check before which none fails
 abbrev pub ExactFault : List Check → Result Header Fault → Type 0
-ExactFault cs (Ok _) = All (λ c. c.0 ≡ false) cs
+ExactFault cs (Ok _) = AllByRecursion (λ c. c.0 ≡ false) cs
 ExactFault cs (Err f) = (k : ℕ) × (k < length cs) × HoldsAt (λ c. c ≡ (true, f)) cs k × ((j : ℕ) → j < k → HoldsAt (λ c. c.0 ≡ false) cs j)
 
 -- what holds of a message without a fault

@@ -5,7 +5,7 @@ ghost use Rattle.limits.specs.Limits.{longest_message};
 ghost use Rattle.messages.specs.Composing.{header_bytes, write_bytes, message, composed, Composes, buffer_after, Numbered};
 ghost use Rattle.messages.specs.Layout.{write_width};
 ghost use Rattle.messages.specs.Returning.{Returns};
-ghost use Rattle.std.specs.List.{flat_map, AllByRecursion as All};
+ghost use Rattle.std.specs.List.{flat_map, AllByRecursion};
 
 use crate::layout::{VERSION, write_start};
 use crate::parts::{Origin, Write};
@@ -93,7 +93,7 @@ fn put_write<T: Setting>(write: &Write<T>, buffer: &mut [u8], at: usize)
 // Writes the records one after the other from `at` on.
 fn put_writes<T: Setting>(writes: &[Write<T>], buffer: &mut [u8], at: usize)
     requires { at + length writes.now * write_width T.Setting.kind.wide ≤ length buffer.old }
-    ensures numbers { All Numbered writes.now }
+    ensures numbers { AllByRecursion Numbered writes.now }
     ensures front { take (at + length writes.now * write_width T.Setting.kind.wide) buffer.new ≡ take at buffer.old ++ flat_map (write_bytes T.Setting.kind) writes.now }
     ensures rest { drop (at + length writes.now * write_width T.Setting.kind.wide) buffer.new ≡ drop (at + length writes.now * write_width T.Setting.kind.wide) buffer.old }
 {

@@ -2,7 +2,7 @@
 use Rattle.std.proofs.Common.{◌≡◌, ℕ, zero, suc, ◌+◌, ◌-◌, ◌*◌, ◌/◌, ◌%◌, ◌^◌, ◌<◌, ◌≤◌, List, [], ◌∷◌, length, get_or, take, drop, replicate, sym, refl, ap, ◌∙◌, subst, ap₂, add_assoc, mod-lt, mod-eq_of_lt, mul_assoc, add-mul, zero-mul, div-one, arith, lit<}
 use native.Mathlib.Nat.{mod-one, pow-succ', one-le-pow}
 use lib.Arith.{mod-mul}
-use Rattle.std.specs.List.{between, AllByRecursion as All}
+use Rattle.std.specs.List.{between, AllByRecursion}
 use Rattle.std.specs.Int.Digits as digits
 use Rattle.std.proofs.lemmas.Int.Digits.{number_lt}
 use Rattle.std.proofs.lemmas.List.{drop_more}
@@ -69,12 +69,12 @@ number_after_big_endian (suc k) a n =
 pub number_big_endian : (k n : ℕ) → n < 256 ^ k → number (big_endian k n) ≡ n
 number_big_endian k n h = number_after_big_endian k 0 n ∙ omega (arith, mod-eq_of_lt h, zero-mul (256 ^ k))
 
-pub bytes_big_endian : (k n : ℕ) → All Byte (big_endian k n)
+pub bytes_big_endian : (k n : ℕ) → AllByRecursion Byte (big_endian k n)
 bytes_big_endian zero n = tt
 bytes_big_endian (suc zero) n = (mod-lt n (lit< tt), tt)
 bytes_big_endian (suc (suc k)) n = (mod-lt (n / 256 ^ suc k) (lit< tt), bytes_big_endian (suc k) n)
 
-same_number : (a b : ℕ) (xs ys : List ℕ) → All Byte xs → All Byte ys → length xs ≡ length ys →
+same_number : (a b : ℕ) (xs ys : List ℕ) → AllByRecursion Byte xs → AllByRecursion Byte ys → length xs ≡ length ys →
     digits.number_from_digits_after 256 a xs ≡ digits.number_from_digits_after 256 b ys → (a ≡ b) × (xs ≡ ys)
 same_number a b [] [] p q l e = (e, refl)
 same_number a b [] (y ∷ ys) p q l e = absurd (omega arith)
@@ -88,12 +88,12 @@ same_number a b (x ∷ xs) (y ∷ ys) p q l e =
     (omega arith, ap₂ (λ z zs. z ∷ zs) same rest.1)
 
 -- bytes are what their number writes
-pub big_endian_number : (k : ℕ) (bs : List ℕ) → length bs ≡ k → All Byte bs → big_endian k (number bs) ≡ bs
+pub big_endian_number : (k : ℕ) (bs : List ℕ) → length bs ≡ k → AllByRecursion Byte bs → big_endian k (number bs) ≡ bs
 big_endian_number k bs l h =
     let small : number bs < 256 ^ k = subst (λ n. number bs < 256 ^ n) l (number_lt 256 bs h) in
     (same_number 0 0 (big_endian k (number bs)) bs (bytes_big_endian k (number bs)) h (length_big_endian k (number bs) ∙ sym l)
     (number_big_endian k (number bs) small)).1
 
-pub bytes_zeros : (k : ℕ) → All Byte (replicate k 0)
+pub bytes_zeros : (k : ℕ) → AllByRecursion Byte (replicate k 0)
 bytes_zeros zero = tt
 bytes_zeros (suc k) = (lit< tt, bytes_zeros k)

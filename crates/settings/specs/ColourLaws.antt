@@ -16,7 +16,7 @@ use Rattle.std.proofs.lemmas.List.{append_assoc, length-append, length-take, len
 use Rattle.std.proofs.lemmas.Slice.{take-put_mid}
 use Rattle.std.proofs.lemmas.Int.{to_z-of_z, of_z-to_z}
 use Rattle.std.proofs.lemmas.Bool.{eqb-true, le-leb, cond-true}
-use Rattle.std.specs.List.{between, AllByRecursion as All}
+use Rattle.std.specs.List.{between, AllByRecursion}
 
 -- ---- a signed number and its four bytes
 
@@ -27,7 +27,7 @@ bits_fit (negsuc n) h = omega arith
 pub count_reads : (z : ℤ) → mag z < 2 ^ 31 → count_of (number (big_endian 4 (of_z w32 z))) ≡ z
 count_reads z h = ap count_of (number_big_endian 4 (of_z w32 z) (bits_fit z h)) ∙ to_z-of_z w32 z (record { sfits = h })
 
-only_four : (xs : List ℕ) → length xs ≡ 4 → All Byte xs → big_endian 4 (of_z w32 (count_of (number xs))) ≡ xs
+only_four : (xs : List ℕ) → length xs ≡ 4 → AllByRecursion Byte xs → big_endian 4 (of_z w32 (count_of (number xs))) ≡ xs
 only_four xs l h =
     let small : number xs < 2 ^ 32 = subst (λ n. number xs < 256 ^ n) l (number_lt 256 xs h) in
     ap (big_endian 4) (of_z-to_z w32 (number xs) small) ∙ big_endian_number 4 xs l h
@@ -46,7 +46,7 @@ three_fours bs l =
     ∙ ap (λ xs. take 4 bs ++ xs) (take-append-drop 4 (drop 4 bs))
     ∙ take-append-drop 4 bs
 
-form_of_parts : (bs : List ℕ) → length bs ≡ 12 → All Byte bs →
+form_of_parts : (bs : List ℕ) → length bs ≡ 12 → AllByRecursion Byte bs →
     colour_form (colour_of (number (between 0 4 bs)) (number (between 4 8 bs)) (number (between 8 12 bs))) ≡ bs
 form_of_parts bs l h =
     let one = only_four (between 0 4 bs) (simp length-take (omega arith)) (All-take Byte 4 bs h) in
@@ -54,7 +54,7 @@ form_of_parts bs l h =
     let three = only_four (between 8 12 bs) (simp (length-take, length-drop) (omega arith)) (All-take Byte 4 _ (All-drop Byte 8 bs h)) in
     ap₂ ◌++◌ one (ap₂ ◌++◌ two three) ∙ three_fours bs l
 
-pub only_forms : (bs : List ℕ) (c : Colour) → All Byte bs → colour_reading bs ≡ Some c → bs ≡ colour_form c
+pub only_forms : (bs : List ℕ) (c : Colour) → AllByRecursion Byte bs → colour_reading bs ≡ Some c → bs ≡ colour_form c
 only_forms bs c h e = by (length bs == 12) refl e
   where
     by : (wide : Bool) → (length bs == 12) ≡ wide →

@@ -13,7 +13,7 @@ use Rattle.settings.specs.declared.link.NodeNumber.{NodeNumber}
 use Rattle.std.proofs.lemmas.Int.Digits.{number_lt}
 use Rattle.std.proofs.lemmas.List.{take_all, take_more_set, length-set}
 use Rattle.std.proofs.lemmas.Bool.{eqb-true, eq-eqb, le-leb, and_parts, cond-true, cond-false}
-use Rattle.std.specs.List.{between, AllByRecursion as All}
+use Rattle.std.specs.List.{between, AllByRecursion}
 
 -- a number of 64 bits stands for itself
 pub node_is : (n : ℕ) (node : NodeNumber) → node.number ≡ n → node_of n ≡ node
@@ -28,7 +28,7 @@ reads (To node) =
 
 -- what is read is the form, by what the reading's three tests answer
 only : (b : ℕ) (rest : List ℕ) (s : Link) (wide none one : Bool) →
-    (length (b ∷ rest) == 9) ≡ wide → (b == 0 && number (take 8 rest) == 0) ≡ none → (b == 1) ≡ one → All Byte (b ∷ rest) →
+    (length (b ∷ rest) == 9) ≡ wide → (b == 0 && number (take 8 rest) == 0) ≡ none → (b == 1) ≡ one → AllByRecursion Byte (b ∷ rest) →
     cond wide (cond none (Some NoNode) (cond one (Some (To (node_of (number (take 8 rest))))) None)) None ≡ Some s →
     b ∷ rest ≡ link_form s
 only b rest s false none one w n o h e = let z : ◌≡◌ {A = ℕ} 0 1 = cc in absurd (omega arith)
@@ -52,7 +52,7 @@ only b rest s true false true w n o h e =
     ap₂ (λ x xs. x ∷ xs) head tail ∙ ap link_form is
 only b rest s true false false w n o h e = let z : ◌≡◌ {A = ℕ} 0 1 = cc in absurd (omega arith)
 
-pub only_forms : (bs : List ℕ) (s : Link) → All Byte bs → link_reading bs ≡ Some s → bs ≡ link_form s
+pub only_forms : (bs : List ℕ) (s : Link) → AllByRecursion Byte bs → link_reading bs ≡ Some s → bs ≡ link_form s
 only_forms [] s h e = let z : ◌≡◌ {A = ℕ} 0 1 = cc in absurd (omega arith)
 only_forms (b ∷ rest) s h e = only b rest s _ _ _ refl refl refl h e
 

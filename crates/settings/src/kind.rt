@@ -2,7 +2,7 @@
 ghost use Rattle.std.specs.Prelude.{◌≡◌, ℕ, ◌≤◌, List, length, Some};
 ghost use Rattle.number_bytes.specs.Bytes.{Byte};
 ghost use Rattle.limits.specs.Limits.{widest_setting};
-ghost use Rattle.std.specs.List.{AllByRecursion as All};
+ghost use Rattle.std.specs.List.{AllByRecursion};
 ghost use Rattle.settings.specs.Forms.{written, region_after};
 ghost use Rattle.settings.specs.Kinds.{SettingKind};
 
@@ -41,9 +41,9 @@ pub trait Setting: Copy {
 
     ghost form_is_wide: { (s : Self) → length (kind.form s) ≡ kind.wide };
 
-    ghost form_is_bytes: { (s : Self) → All Byte (kind.form s) };
+    ghost form_is_bytes: { (s : Self) → AllByRecursion Byte (kind.form s) };
 
     ghost form_reads: { (s : Self) → kind.reading (kind.form s) ≡ Some s };
 
-    ghost only_forms_read: { (bs : List ℕ) (s : Self) → All Byte bs → kind.reading bs ≡ Some s → bs ≡ kind.form s };
+    ghost only_forms_read: { (bs : List ℕ) (s : Self) → AllByRecursion Byte bs → kind.reading bs ≡ Some s → bs ≡ kind.form s };
 }

@@ -9,7 +9,7 @@ use Rattle.std.proofs.ByRecursion.{All-set}
 use Rattle.std.proofs.lemmas.List.{length-set}
 use Rattle.std.proofs.lemmas.Bool.{and_from, both_ways}
 use Rattle.std.proofs.lemmas.Bool.Decides.{Decides-at, Decides-eqb, Decides-below_or, Decides-below_and, Decides-by_or}
-use Rattle.std.specs.List.{ContainsAt as Has, AllByRecursion as All}
+use Rattle.std.specs.List.{ContainsAt as Has, AllByRecursion}
 use Rattle.summaries.specs.Bits.{bit_with}
 use Rattle.summaries.specs.Blooms as blooms
 use Rattle.summaries.specs.Blooms.{hashes, position, with_bit, has_bit, marked, packed_bloom, names_bloom, IsPosition, SetsExactly}
@@ -117,23 +117,23 @@ one_not_set bs n i inside here = by (names_bloom bs n) refl
 pub packed_wide : (ns : List ℕ) → length (packed_bloom ns) ≡ 64
 packed_wide ns = length_packing ns (replicate 64 0)
 
-byte_at : (bs : List ℕ) (i : ℕ) → All Byte bs → slice_index bs i < 256
+byte_at : (bs : List ℕ) (i : ℕ) → AllByRecursion Byte bs → slice_index bs i < 256
 byte_at [] i h = lit< tt
 byte_at (b ∷ bs) zero h = h.0
 byte_at (b ∷ bs) (suc i) h = byte_at bs i h.1
 
-bytes_marked : (n i : ℕ) (bs : List ℕ) → All Byte bs → All Byte (marked n i bs)
+bytes_marked : (n i : ℕ) (bs : List ℕ) → AllByRecursion Byte bs → AllByRecursion Byte (marked n i bs)
 bytes_marked n zero bs h = h
 bytes_marked n (suc i) bs h =
     let before = bytes_marked n i bs h in
     let p = position n i in
     All-set Byte (marked n i bs) (p / 8) _ (or_lt 8 _ (2 ^ (p % 8)) (byte_at (marked n i bs) (p / 8) before) (pow_below (p % 8) 8 (mod-lt p (lit< tt)))) before
 
-bytes_packing : (ns bs : List ℕ) → All Byte bs → All Byte (packing bs ns)
+bytes_packing : (ns bs : List ℕ) → AllByRecursion Byte bs → AllByRecursion Byte (packing bs ns)
 bytes_packing [] bs h = h
 bytes_packing (n ∷ ns) bs h = bytes_packing ns (marked n hashes bs) (bytes_marked n hashes bs h)
 
-pub packed_bytes : (ns : List ℕ) → All Byte (packed_bloom ns)
+pub packed_bytes : (ns : List ℕ) → AllByRecursion Byte (packed_bloom ns)
 packed_bytes ns = bytes_packing ns (replicate 64 0) (bytes_zeros 64)
 
 pub listed_named : (ns : List ℕ) (n : ℕ) → Has ns n → names_bloom (packed_bloom ns) n ≡ true

@@ -11,7 +11,7 @@ use Rattle.std.proofs.lemmas.List.{flat_map_more, take_more, take_more_set, leng
 use Rattle.std.proofs.lemmas.Slice.{take-put_mid}
 use Rattle.std.proofs.lemmas.Bool.{ne_eqb, or_from}
 use Rattle.std.proofs.lemmas.Bool.Decides.{Decides-eqb, Decides-below_or}
-use Rattle.std.specs.List.{AllByRecursion as All}
+use Rattle.std.specs.List.{AllByRecursion}
 use Rattle.summaries.specs.ExactLists.{numbers, packed_exact, number_in, among, NamesExactly}
 
 -- ---- what packing writes
@@ -58,11 +58,11 @@ among_more bs n i other before =
 pub packed_wide : (ns : List ℕ) → length ns ≤ 32 → length (packed_exact ns) ≡ 257
 packed_wide ns few = let whole = length_numbers ns in simp (length-append, length-replicate) (omega arith)
 
-bytes_numbers : (ns : List ℕ) → All Byte (numbers ns)
+bytes_numbers : (ns : List ℕ) → AllByRecursion Byte (numbers ns)
 bytes_numbers [] = tt
 bytes_numbers (n ∷ ns) = All-append Byte (big_endian 8 n) (numbers ns) (bytes_big_endian 8 n) (bytes_numbers ns)
 
-pub packed_bytes : (ns : List ℕ) → length ns ≤ 32 → All Byte (packed_exact ns)
+pub packed_bytes : (ns : List ℕ) → length ns ≤ 32 → AllByRecursion Byte (packed_exact ns)
 packed_bytes ns few = (omega arith, All-append Byte (numbers ns) _ (bytes_numbers ns) (bytes_zeros _))
 
 -- number k, at its place among the bytes
@@ -70,7 +70,7 @@ nth_bytes : (ns tail : List ℕ) (k : ℕ) → k < length ns → take 8 (drop (8
 nth_bytes ns tail k h =
     ap (λ j. take 8 (drop j (numbers ns ++ tail))) (mul_comm 8 k) ∙ nth_joined (big_endian 8) 8 (length_big_endian 8) ns tail k 0 h
 
-pub number_in_packed : (ns : List ℕ) (k : ℕ) → All Number ns → k < length ns → number_in (packed_exact ns) k ≡ slice_index ns k
+pub number_in_packed : (ns : List ℕ) (k : ℕ) → AllByRecursion Number ns → k < length ns → number_in (packed_exact ns) k ≡ slice_index ns k
 number_in_packed ns k small h =
     let width : 1 + 8 * k + 8 - (1 + 8 * k) ≡ 8 = omega arith in
     let place : 1 + 8 * k ≡ suc (8 * k) = omega arith in
@@ -80,7 +80,7 @@ number_in_packed ns k small h =
     ∙ number_big_endian 8 (slice_index ns k) (All-get_or Number ns k 0 h small)
 
 -- bytes packed from a list name exactly the numbers of the list
-pub names_packed : (ns : List ℕ) → length ns ≤ 32 → All Number ns → NamesExactly ns (packed_exact ns)
+pub names_packed : (ns : List ℕ) → length ns ≤ 32 → AllByRecursion Number ns → NamesExactly ns (packed_exact ns)
 names_packed ns few small n =
     let count : min (length ns) most_reads ≡ length ns = omega arith in
     let found = among_decides (packed_exact ns) n (min (length ns) most_reads) in (

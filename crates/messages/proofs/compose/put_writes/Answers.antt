@@ -4,7 +4,7 @@ use Rattle.messages.specs.Composing.{write_bytes, Numbered}
 use Rattle.messages.specs.Layout.{write_width}
 use Rattle.std.proofs.lemmas.List.{take_all}
 use Rattle.std.proofs.ByRecursion.{All-more}
-use Rattle.std.specs.List.{flat_map, AllByRecursion as All}
+use Rattle.std.specs.List.{flat_map, AllByRecursion}
 use Rattle.messages.proofs.compose.put_writes.Goals as goal
 
 pub put_write-requires : goal.put_write-requires
@@ -48,7 +48,7 @@ returns g c =
     let end : c.args.at + length writes * k ≡ c.loop-write.start = ap (λ n. c.args.at + n * k) (sym all) ∙ sym c.loop-write.invariant.1 in
     let taken : take c.loop-write.write-index writes ≡ writes = take_all c.loop-write.write-index writes c.loop-write-test.false in
     record {
-      numbers = subst (All Numbered) taken c.loop-write.invariant.0;
+      numbers = subst (AllByRecursion Numbered) taken c.loop-write.invariant.0;
       front =
           ap (λ n. take n c.loop-write.buffer) end
           ∙ c.loop-write.invariant.2
