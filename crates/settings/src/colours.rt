@@ -1,7 +1,7 @@
 // Colours as a kind of setting: three numbers of four bytes each.
 ghost use Rattle.settings.specs.Colours.{colours};
 ghost use Rattle.settings.specs.ColourLaws.{reads, only_forms};
-ghost use Rattle.std.proofs.Common.{rules, arith};
+ghost use Rattle.std.proofs.Common.{rules};
 
 use crate::colour::Colour;
 use crate::kind::{Setting, WrongWidth};
@@ -12,13 +12,13 @@ impl Setting for Colour {
 
     ghost kind = { colours };
 
-    ghost some_width = { first_of (Prim.search rules, Prim.grind (arith, Self.row.coded.inj)) };
+    ghost some_width = { Prim.search rules };
 
-    ghost within_limit = { first_of (Prim.search rules, Prim.grind (arith, Self.row.coded.inj)) };
+    ghost within_limit = { Prim.search rules };
 
-    ghost form_is_wide = { first_of (Prim.search rules, Prim.grind (arith, Self.row.coded.inj)) };
+    ghost form_is_wide = { Prim.search rules };
 
-    ghost form_is_bytes = { first_of (Prim.search rules, Prim.grind (arith, Self.row.coded.inj)) };
+    ghost form_is_bytes = { Prim.search rules };
 
     ghost form_reads = { reads };
 
