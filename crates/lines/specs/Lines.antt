@@ -7,7 +7,7 @@
 --   held             how many messages a line holds
 --   unusable         whether the limit is 0 or above 4,096
 --   empty_line       what a line of this limit means that holds nothing
---   AllowedLength   the length that a message may have
+--   AllowedLength    the length that a message may have
 --   Lawful           what holds of every line at any moment
 --   offer_check      offering: the first refusal, by the numbers it depends on
 --   offer_answer     what offering answers
@@ -24,7 +24,7 @@
 --   message_number   the agreed message of a number
 --   fetch_answer     what fetching answers
 --   after_fetch      what the buffer holds after a fetch
---   SameIfRefused  a refused call leaves this as it was
+--   SameIfRefused    a refused call leaves this as it was
 use Rattle.std.specs.Prelude.{◌≡◌, ℕ, zero, suc, ◌+◌, ◌-◌, ◌<◌, ◌≤◌, Bool, true, cond, List, [], ◌∷◌, ◌++◌, length, take, drop, Ok, Err, Result, ◌==◌, nat_le, nat_lt, slice_index_or}
 use Rattle.limits.specs.Limits.{most_suites, most_held, longest_message, outside}
 use Rattle.refusals.specs.declared.Refusal.{Refusal}

@@ -1,18 +1,18 @@
 -- In which order the two lines settle.
 --
---   Offered            a message that was offered, with its suite
---   lane               what waits for a suite, of a queue of offered messages
---   queue_after_offer  the queue of a first-come line after an offer
---   arrivals           all messages: what is agreed, then the queue
---   arrivals_after_offer   all messages after an offer
---   ServesHead        that a settle served the head of the queue
---   FirstComeOrder         what a settle of a first-come line does
---   suite_after        the suite so many after another; after 8 comes 1
---   steps_to           how many suites after another a suite comes
---   first_that         the first number from d on that passes a test, of k numbers
---   turn_picks         the suite that a turn line serves
---   ServesTurn        that a settle served the first suite from the turn on for which a message waited
---   ByTurn            what a settle of a turn line does
+--   Offered               a message that was offered, with its suite
+--   lane                  what waits for a suite, of a queue of offered messages
+--   queue_after_offer     the queue of a first-come line after an offer
+--   arrivals              all messages: what is agreed, then the queue
+--   arrivals_after_offer  all messages after an offer
+--   ServesHead            that a settle served the head of the queue
+--   FirstComeOrder        what a settle of a first-come line does
+--   suite_after           the suite so many after another; after 8 comes 1
+--   steps_to              how many suites after another a suite comes
+--   first_that            the first number from d on that passes a test, of k numbers
+--   turn_picks            the suite that a turn line serves
+--   ServesTurn            that a settle served the first suite from the turn on for which a message waited
+--   ByTurn                what a settle of a turn line does
 use Rattle.std.specs.Prelude.{◌≡◌, ℕ, zero, suc, ◌+◌, ◌-◌, ◌<◌, Bool, cond, List, [], ◌∷◌, ◌++◌, map, length, Ok, Err, Result, ◌==◌, nat_le, nat_lt}
 use Rattle.limits.specs.Limits.{most_suites}
 use Rattle.refusals.specs.declared.Refusal.{Refusal}

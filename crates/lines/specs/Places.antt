@@ -13,12 +13,12 @@
 --   order           the places in their order
 --   row             what stands in the places, in their order
 --   rest            the bytes past the last whole place
---   ChangedAt      only the bytes of one place were changed
+--   ChangedAt       only the bytes of one place were changed
 --   exchange        two neighbours that change places
 --   brought         an element brought forward to a place, and those from there on one place back
 --   Reordered       only the order of the places was changed
---   LinksInside    every link is a place
---   LinksApart     no place is linked twice
+--   LinksInside     every link is a place
+--   LinksApart      no place is linked twice
 use Rattle.std.specs.Prelude.{◌≡◌, ℕ, ◌+◌, ◌*◌, ◌/◌, ◌<◌, min, List, ◌∷◌, ◌++◌, map, length, take, drop, ◌≢◌, slice_index, slice_index_or, slice_set}
 use Rattle.number_bytes.specs.Bytes.{number}
 use Rattle.limits.specs.Limits.{line_place, line_header, longest_message, most_held}

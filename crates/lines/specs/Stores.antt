@@ -2,20 +2,20 @@
 --
 --   nothing        no message, for no suite
 --   Sound          an offered message is for a suite, and has a length that a message may have
---   AllSound      so are the first of the row
+--   AllSound       so are the first of the row
 --   Good           what always holds of the bytes and the two counts of a store
 --   Stored         what a store means
 --   stored         what the bytes and the two counts mean
 --   memory         the handed bytes, as the store holds them
 --   view           what a store means, of the store's own type
---   GoodStore     that what always holds of a store holds
+--   GoodStore      that what always holds of a store holds
 --   empty          an empty store
 --   state_of       what a line over such a store means
 --   line_of        the same, of the store's own type
 --   stored_offer   after an offer
 --   stored_settle  after a message of the queue was settled
---   FirstOfSuite none before it in the queue is for its suite
-use Rattle.std.specs.Prelude.{ℕ, ◌+◌, ◌<◌, ◌≤◌, List, [], ◌∷◌, ◌++◌, map, length, get_or, take, Result, ◌≢◌, slice_index_or}
+--   FirstOfSuite   none before it in the queue is for its suite
+use Rattle.std.specs.Prelude.{ℕ, ◌+◌, ◌<◌, ◌≤◌, List, [], ◌∷◌, ◌++◌, map, length, take, Result, ◌≢◌, slice_index_or}
 use Rattle.std.specs.Borrow.{MutBor}
 use Rattle.limits.specs.Limits.{most_suites, longest_message}
 use Rattle.refusals.specs.declared.Refusal.{Refusal}
@@ -100,4 +100,4 @@ stored_settle s k = record {
 
 -- none before k in the queue is for the suite that k is for
 abbrev pub FirstOfSuite : List Offered → ℕ → Type 0
-FirstOfSuite queue k = (j : ℕ) → j < k → (get_or queue j nothing).suite ≢ (get_or queue k nothing).suite
+FirstOfSuite queue k = (j : ℕ) → j < k → (slice_index_or queue j nothing).suite ≢ (slice_index_or queue k nothing).suite

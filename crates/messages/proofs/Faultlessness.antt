@@ -11,7 +11,7 @@ use Rattle.messages.specs.declared.parts.Write.{Write}
 use Rattle.std.proofs.lemmas.List.Edits.{length-between}
 use Rattle.std.proofs.lemmas.Bool.{eqb-true, eqb-false, ltb-false, not-false, or_parts, lt-ltb, le-leb, and_from, cond-true, both_ways}
 use Rattle.settings.specs.Kinds.{SettingKind}
-use Rattle.std.specs.List.{between, range_with_len, flat_map, ContainsAt as Has, AllByRecursion}
+use Rattle.std.specs.List.{between, range_with_len, flat_map, ContainsAt, AllByRecursion}
 use Rattle.std.specs.Option.{option_map}
 use Rattle.summaries.specs.Kinds.{SummaryKind}
 
@@ -63,7 +63,7 @@ module _ {T : Type 0} (S : SummaryKind) (K : SettingKind T) (suites stamp : ℕ)
   node_parts : (i : ℕ) → i < get_or m 5 0 → (not (known nodes (node_in S.wide K.wide m i)) ≡ false) × (given_before S.wide K.wide m (node_in S.wide K.wide m i) i ≡ false)
   node_parts i h = or_parts (not (known nodes (node_in S.wide K.wide m i))) _ (write_fine i h).0
 
-  write_there : (i : ℕ) → i < get_or m 5 0 → (w : Write T) × (write_in S K m i ≡ Some w) × (w.node ≡ node_in S.wide K.wide m i) × Has nodes w.node
+  write_there : (i : ℕ) → i < get_or m 5 0 → (w : Write T) × (write_in S K m i ≡ Some w) × (w.node ≡ node_in S.wide K.wide m i) × ContainsAt nodes w.node
   write_there i h =
       let next = start_le S.wide K.wide (i + 1) (get_or m 5 0) (omega arith) in
       let whole : (ltb i (get_or m 5 0) && leb (write_start S.wide K.wide (i + 1)) (length m)) ≡ true =

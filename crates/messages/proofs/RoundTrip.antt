@@ -16,7 +16,7 @@ use Rattle.std.proofs.ByRecursion.{All-get_or, All-append}
 use Rattle.std.proofs.lemmas.List.{append-nil, length-append, length-map, take_at, take-take, drop_at, drop-drop, drop-take, get_or-map}
 use Rattle.std.proofs.lemmas.Bool.{eq-eqb, ne_eqb, le-ltb, lt-ltb, le-leb, and_from, or_from, cond-true}
 use Rattle.settings.specs.Kinds.{SettingKind}
-use Rattle.std.specs.List.{between, range_with_len, flat_map, ContainsAt as Has, AllByRecursion}
+use Rattle.std.specs.List.{between, range_with_len, flat_map, ContainsAt, AllByRecursion}
 use Rattle.std.specs.Option.{option_map}
 use Rattle.summaries.specs.Kinds.{SummaryKind}
 
@@ -139,7 +139,7 @@ module _ {T : Type 0} (S : SummaryKind) (K : SettingKind T)
     node_known : (i : ℕ) → i < length writes → known nodes (node_in S.wide K.wide m i) ≡ true
     node_known i h =
         let there : i < length (map (λ w. w.node) writes) = omega (arith, length-map writes (λ w. w.node)) in
-        ap (known nodes) (node_is i h) ∙ (known_decides nodes _).1 (All-get_or (Has nodes) (map (λ w. w.node) writes) i 0 there fitting.nodes_in)
+        ap (known nodes) (node_is i h) ∙ (known_decides nodes _).1 (All-get_or (ContainsAt nodes) (map (λ w. w.node) writes) i 0 there fitting.nodes_in)
 
     node_new : (i : ℕ) → i < length writes → given_before S.wide K.wide m (node_in S.wide K.wide m i) i ≡ false
     node_new i h = by (given_before S.wide K.wide m (node_in S.wide K.wide m i) i) refl

@@ -25,7 +25,7 @@
 --   read_answer         what reading answers
 --   summary_in          the bytes of the summary
 --   write_in            a write, if it is there
---   ExactFault         a fault is exactly that of the first failing check
+--   ExactFault          a fault is exactly that of the first failing check
 --   Faultless           what holds of a message without a fault
 use Rattle.std.specs.Prelude.{◌≡◌, ℕ, zero, suc, ◌+◌, ◌-◌, ◌<◌, ◌≤◌, Bool, true, false, cond, not, ◌&&◌, ◌||◌, List, [], ◌∷◌, ◌++◌, length, is_some, Some, None, Ok, Err, Option, Result, ◌==◌, ◌≢◌, nat_le, nat_lt, slice_index}
 use Rattle.number_bytes.specs.Bytes.{number}
@@ -39,7 +39,7 @@ use Rattle.messages.specs.declared.parts.Header.{Header}
 use Rattle.messages.specs.declared.parts.Write.{Write}
 use Rattle.messages.specs.declared.read.RawHeader.{RawHeader}
 use Rattle.settings.specs.Kinds.{SettingKind}
-use Rattle.std.specs.List.{between, range_with_len, flat_map, HoldsAt, ContainsAt as Has, AllByRecursion}
+use Rattle.std.specs.List.{between, range_with_len, flat_map, HoldsAt, ContainsAt, AllByRecursion}
 use Rattle.std.specs.Option.{option_map}
 use Rattle.summaries.specs.Kinds.{SummaryKind}
 
@@ -161,5 +161,5 @@ pub record Faultless {T : Type 0} (S : SummaryKind) (K : SettingKind T) (suites 
   pub whole : length m ≡ message_length S.wide K.wide (slice_index m 5)
   pub snapshot_in : number (between 6 10 m) ≤ stamp
   pub summary_whole : length (summary_in S.wide m) ≡ S.wide
-  pub each : (i : ℕ) → i < slice_index m 5 → (w : Write T) × (write_in S K m i ≡ Some w) × (w.node ≡ node_in S.wide K.wide m i) × Has nodes w.node
+  pub each : (i : ℕ) → i < slice_index m 5 → (w : Write T) × (write_in S K m i ≡ Some w) × (w.node ≡ node_in S.wide K.wide m i) × ContainsAt nodes w.node
   pub different : (i j : ℕ) → i < j → j < slice_index m 5 → node_in S.wide K.wide m i ≢ node_in S.wide K.wide m j

@@ -11,7 +11,7 @@ use Rattle.messages.specs.declared.parts.Header.{Header}
 use Rattle.messages.specs.declared.parts.Origin.{Origin}
 use Rattle.messages.specs.declared.parts.Write.{Write}
 use Rattle.settings.specs.Kinds.{SettingKind}
-use Rattle.std.specs.List.{ContainsAt as Has, AllByRecursion}
+use Rattle.std.specs.List.{ContainsAt, AllByRecursion}
 use Rattle.summaries.specs.Kinds.{SummaryKind}
 
 -- the header of a message from `from` with so many writes
@@ -33,7 +33,7 @@ Different ns = (i j : ℕ) → i < j → j < length ns → slice_index ns i ≢ 
 pub record Fitting (suites stamp : ℕ) (nodes : List ℕ) (from : Origin) (written : List ℕ) : Type 0 where
   pub suite_in : from.suite ≤ suites
   pub snapshot_in : from.snapshot ≤ stamp
-  pub nodes_in : AllByRecursion (Has nodes) written
+  pub nodes_in : AllByRecursion (ContainsAt nodes) written
   pub different : Different written
 
 -- the message m gives its fields back, and has no fault for a reader that it fits

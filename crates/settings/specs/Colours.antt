@@ -2,7 +2,7 @@
 --
 --   count_of          the signed number that 32 bits stand for
 --   colour_of         the colour of three numbers, each by its 32 bits
---   starting_colour             the colour that a node starts with
+--   starting_colour   the colour that a node starts with
 --   colour_form       the twelve bytes of a colour
 --   colour_reading    the colour that bytes stand for
 --   colours           the kind

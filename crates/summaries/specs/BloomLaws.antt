@@ -9,7 +9,7 @@ use Rattle.std.proofs.ByRecursion.{All-set}
 use Rattle.std.proofs.lemmas.List.{length-set}
 use Rattle.std.proofs.lemmas.Bool.{and_from, both_ways}
 use Rattle.std.proofs.lemmas.Bool.Decides.{Decides-at, Decides-eqb, Decides-below_or, Decides-below_and, Decides-by_or}
-use Rattle.std.specs.List.{ContainsAt as Has, AllByRecursion}
+use Rattle.std.specs.List.{ContainsAt, AllByRecursion}
 use Rattle.summaries.specs.Bits.{bit_with}
 use Rattle.summaries.specs.Blooms as blooms
 use Rattle.summaries.specs.Blooms.{hashes, position, with_bit, has_bit, marked, packed_bloom, names_bloom, IsPosition, SetsExactly}
@@ -136,7 +136,7 @@ bytes_packing (n ∷ ns) bs h = bytes_packing ns (marked n hashes bs) (bytes_mar
 pub packed_bytes : (ns : List ℕ) → AllByRecursion Byte (packed_bloom ns)
 packed_bytes ns = bytes_packing ns (replicate 64 0) (bytes_zeros 64)
 
-pub listed_named : (ns : List ℕ) (n : ℕ) → Has ns n → names_bloom (packed_bloom ns) n ≡ true
+pub listed_named : (ns : List ℕ) (n : ℕ) → ContainsAt ns n → names_bloom (packed_bloom ns) n ≡ true
 listed_named ns n h =
     (all_set_decides (packed_bloom ns) n hashes).1
     (λ i inside. (packs_exactly ns (position n i)).1 (h.0, h.1, λ d. (i, inside, ap (λ m. position m i) (sym (h.2 d)))))

@@ -10,8 +10,8 @@
 --   all_set         whether the first positions of a node are set
 --   names_bloom     whether the bytes name a node
 --   bloom           the kind
---   IsPosition     a number is one of a node's twelve positions
---   SetsExactly    packing sets exactly the positions of the listed nodes
+--   IsPosition      a number is one of a node's twelve positions
+--   SetsExactly     packing sets exactly the positions of the listed nodes
 use Rattle.std.specs.Prelude.{◌≡◌, ℕ, zero, suc, ◌+◌, ◌*◌, ◌/◌, ◌%◌, ◌^◌, ◌<◌, Bool, true, ◌&&◌, List, length, replicate, Decides, fold, ◌==◌, bit_or, slice_index, slice_set}
 use Rattle.std.specs.List.{HoldsAt}
 use Rattle.summaries.specs.Hashes.{murmur2}

@@ -7,11 +7,11 @@
 --   among           whether a node is one of the first c numbers
 --   names_exact     whether the bytes name a node
 --   exact_list      the kind
---   NamesExactly   the bytes name exactly the listed nodes
+--   NamesExactly    the bytes name exactly the listed nodes
 use Rattle.std.specs.Prelude.{ℕ, zero, suc, ◌+◌, ◌-◌, ◌*◌, min, Bool, false, ◌||◌, List, ◌∷◌, ◌++◌, length, replicate, Decides, ◌==◌, slice_index}
 use Rattle.number_bytes.specs.Bytes.{big_endian, number}
 use Rattle.limits.specs.Limits.{most_reads}
-use Rattle.std.specs.List.{between, flat_map, ContainsAt as Has}
+use Rattle.std.specs.List.{between, flat_map, ContainsAt}
 use Rattle.summaries.specs.Kinds.{SummaryKind}
 
 -- one byte, and 32 numbers of eight
@@ -45,4 +45,4 @@ exact_list = record { wide = exact_width; names = names_exact; packed = packed_e
 
 -- the bytes name exactly the listed nodes
 abbrev pub NamesExactly : List ℕ → List ℕ → Type 0
-NamesExactly ns bs = (n : ℕ) → Decides (names_exact bs n) (Has ns n)
+NamesExactly ns bs = (n : ℕ) → Decides (names_exact bs n) (ContainsAt ns n)

@@ -2,7 +2,7 @@
 --
 --   multiplier      the hash's constant
 --   times           a product modulo 2^32
---   xor_shifted      a number XOR itself shifted right
+--   xor_shifted     a number XOR itself shifted right
 --   word            four bytes as a number, the lowest first
 --   mixed           a word before it is taken in
 --   taken_in        the hash after one more word

@@ -2,7 +2,7 @@
 ghost use Rattle.std.specs.Prelude.{◌≡◌, ℕ, ◌≤◌, true, false, List, [], length};
 ghost use Rattle.number_bytes.specs.Bytes.{Byte, Number};
 ghost use Rattle.limits.specs.Limits.{most_reads, widest_summary};
-ghost use Rattle.std.specs.List.{ContainsAt as Has, AllByRecursion};
+ghost use Rattle.std.specs.List.{ContainsAt, AllByRecursion};
 ghost use Rattle.summaries.specs.Calls.{pack_answer, pack_region, query_answer};
 ghost use Rattle.summaries.specs.Kinds.{SummaryKind};
 
@@ -37,7 +37,7 @@ pub trait Summary {
 
     ghost packed_is_bytes: { (ns : List ℕ) → length ns ≤ most_reads → AllByRecursion Byte (kind.packed ns) };
 
-    ghost listed_are_named: { (ns : List ℕ) (n : ℕ) → length ns ≤ most_reads → AllByRecursion Number ns → Has ns n → kind.names (kind.packed ns) n ≡ true };
+    ghost listed_are_named: { (ns : List ℕ) (n : ℕ) → length ns ≤ most_reads → AllByRecursion Number ns → ContainsAt ns n → kind.names (kind.packed ns) n ≡ true };
 
     ghost none_from_none: { (n : ℕ) → kind.names (kind.packed []) n ≡ false };
 }
