@@ -18,8 +18,6 @@ pub fn examples_stand() -> u8
 }
 
 /// The worked examples of the line hold of the definitions.
-pub fn line_examples_stand() -> u8
+pub fn line_examples_stand()
     ensures { LineExamples }
-{
-    0
-}
+{}

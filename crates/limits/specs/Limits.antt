@@ -59,7 +59,7 @@ line_header = 6
 abbrev pub line_place : ℕ
 line_place = line_header + longest_message
 
--- all of them as one value
+-- those of a session and its messages as one value
 abbrev pub the_limits : Limits
 the_limits = record {
   suites = most_suites;

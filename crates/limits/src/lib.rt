@@ -47,7 +47,7 @@ pub const LINE_HEADER: usize = 6;
 /// Bytes of a line's place: its own, and room for the longest message.
 pub const LINE_PLACE: usize = LINE_HEADER + MESSAGE;
 
-/// The limits as one value.
+/// The limits of a session and its messages as one value.
 #[derive(Clone, Copy, PartialEq, Eq, Debug)]
 pub struct Limits {
     pub suites: usize,
@@ -63,7 +63,7 @@ pub struct Limits {
     pub message: usize,
 }
 
-/// The constants above, which are the numbers that the definitions name.
+/// The constants of a session and its messages, which are the numbers that the definitions name.
 pub fn in_force() -> Limits
     ensures { result ≡ the_limits }
 {
@@ -90,7 +90,7 @@ pub struct LineLimits {
     pub place: usize,
 }
 
-/// The constants of a line above, which are the numbers that the definitions name.
+/// The constants of a line, which are the numbers that the definitions name.
 pub fn lines_in_force() -> LineLimits
     ensures { result ≡ the_line_limits }
 {
