@@ -1,6 +1,7 @@
 // The widest kinds there can be, made for tests: a setting of 32 bytes with one value, and a summary of 512 bytes that tells
 // only whether anything was read.
 ghost use Rattle.std.specs.Prelude.{◌≡◌};
+ghost use Rattle.limits.specs.Limits.{widest_setting, widest_summary};
 ghost use Rattle.cases.specs.Widest.{all_zero, blanks, touched};
 ghost use Rattle.cases.specs.Zeros.{only_blank, bytes_touched};
 ghost use Rattle.std.proofs.Common.{rules};
@@ -20,18 +21,17 @@ pub struct Touched;
 fn are_zero(bytes: &[u8]) -> bool
     ensures { result ≡ all_zero bytes.now }
 {
-    for b in bytes {
-        if *b != 0 {
-            return false;
-        }
-    }
-    true
+    bytes.iter().all(|b| *b == 0)
 }
 
 impl Setting for Blank {
     const WIDTH: usize = SETTING_WIDTH;
 
+    ghost WIDTH = { widest_setting };
+
     ghost kind = { blanks };
+
+    ghost width_is_wide = { Prim.search rules };
 
     ghost some_width = { Prim.search rules };
 
@@ -45,35 +45,29 @@ impl Setting for Blank {
 
     ghost only_forms_read = { λ bs s h. only_blank bs s };
 
-    fn width_of() -> usize {
-        Self::WIDTH
-    }
-
     fn starting() -> Blank {
         Blank
     }
 
     fn write(&self, region: &mut [u8]) -> Result<(), WrongWidth> {
-        if region.len() != Self::WIDTH {
-            return Err(WrongWidth);
-        }
-        region.fill(0);
+        let form: &mut [u8; SETTING_WIDTH] = region.as_mut_array().ok_or(WrongWidth)?;
+        form.fill(0);
         Ok(())
     }
 
     fn read(bytes: &[u8]) -> Option<Blank> {
-        if bytes.len() == Self::WIDTH && are_zero(bytes) {
-            Some(Blank)
-        } else {
-            None
-        }
+        (bytes.len() == Self::WIDTH && are_zero(bytes)).then_some(Blank)
     }
 }
 
 impl Summary for Touched {
     const WIDTH: usize = SUMMARY_WIDTH;
 
+    ghost WIDTH = { widest_summary };
+
     ghost kind = { touched };
+
+    ghost width_is_wide = { Prim.search rules };
 
     ghost some_width = { Prim.search rules };
 
@@ -87,10 +81,6 @@ impl Summary for Touched {
 
     ghost none_from_none = { Prim.search rules };
 
-    fn width_of() -> usize {
-        Self::WIDTH
-    }
-
     fn pack(nodes: &[u64], region: &mut [u8]) -> Result<(), Refusal> {
         if nodes.len() > READS || region.len() != Self::WIDTH {
             return Err(Refusal::SummarySize);
@@ -103,9 +93,7 @@ impl Summary for Touched {
     }
 
     fn query(region: &[u8], _node: u64) -> Result<bool, Refusal> {
-        if region.len() != Self::WIDTH {
-            return Err(Refusal::SummarySize);
-        }
-        Ok(region[0] == 1)
+        let bytes: &[u8; SUMMARY_WIDTH] = region.as_array().ok_or(Refusal::SummarySize)?;
+        Ok(bytes[0] == 1)
     }
 }

@@ -3,7 +3,7 @@
 #![tactic(auto)]
 
 ghost use Rattle.std.specs.Prelude.{◌≡◌};
-ghost use Rattle.limits.specs.Limits.{the_limits, the_line_limits};
+ghost use Rattle.limits.specs.Limits.{the_limits, the_line_limits, outside};
 
 /// Suites (replicas) in a session.
 pub const SUITES: usize = 8;
@@ -99,4 +99,11 @@ pub fn lines_in_force() -> LineLimits
         header: LINE_HEADER,
         place: LINE_PLACE,
     }
+}
+
+/// Whether a number is not 1 to `most`.
+pub fn outside(n: usize, most: usize) -> bool
+    ensures { result ≡ outside most n }
+{
+    !(1..=most).contains(&n)
 }

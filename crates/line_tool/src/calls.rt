@@ -1,77 +1,70 @@
 // Calls on a line, and what is printed of their answers.
-use crate::command::{Call, MOST_ROOM};
+use crate::command::Call;
+use crate::stop::Stop;
 use limits::MESSAGE;
 use lines::line::Line;
-use refusals::Refusal;
 use texts::hex_text;
 
 // What a buffer holds before a fetch.
 const UNTOUCHED: u8 = 0xee;
 
-/// Makes a call, and prints its answer.
-pub(crate) fn perform<L: Line>(rt: &HostRuntime, line: &mut L, call: Call) -> anyhow::Result<()> {
-    match call {
-        Call::Offer(suite, message) => {
-            let length = message.length.min(MOST_ROOM);
-            show_done(rt, line.offer(suite, &message.buffer[0..length]))
-        }
-        Call::Settle => show_done(rt, line.settle()),
-        Call::Count => show_count(rt, line.count()),
-        Call::Fetch(number, room) => fetch(rt, line, number, room),
-        Call::Agreed => show_agreed(rt, line),
-    }
+/// A line that is called, and where the answers are printed.
+#[derive(Drop)]
+pub(crate) struct Calls<'a, L> {
+    pub rt: &'a HostRuntime,
+    pub line: L,
 }
 
-fn show_refusal(rt: &HostRuntime, refusal: Refusal) -> anyhow::Result<()> {
-    let number = refusal.number();
-    println!(rt; "no {number}")?;
-    Ok(())
-}
-
-fn show_done(rt: &HostRuntime, answer: Result<(), Refusal>) -> anyhow::Result<()> {
-    match answer {
-        Ok(()) => Ok(println!(rt; "ok")?),
-        Err(refusal) => show_refusal(rt, refusal),
-    }
-}
-
-fn show_count(rt: &HostRuntime, answer: Result<usize, Refusal>) -> anyhow::Result<()> {
-    match answer {
-        Ok(count) => Ok(println!(rt; "count {count}")?),
-        Err(refusal) => show_refusal(rt, refusal),
-    }
-}
-
-// Fetches into a buffer of `room` bytes, and prints the whole buffer.
-fn fetch<L: Line>(rt: &HostRuntime, line: &L, number: usize, room: usize) -> anyhow::Result<()> {
-    let mut buffer = [UNTOUCHED; MOST_ROOM];
-    let region = &mut buffer[0..room.min(MOST_ROOM)];
-    let answer = line.fetch(number, region);
-    let text = hex_text(rt.alloc(), region)?;
-    match answer {
-        Ok(length) => println!(rt; "fetched {length} {text}")?,
-        Err(refusal) => {
-            let number = refusal.number();
-            println!(rt; "no {number} {text}")?;
+impl<L: Line> Calls<'_, L> {
+    /// Makes a call, and prints its answer or its refusal.
+    pub(crate) fn perform(&mut self, call: Call) -> anyhow::Result<()> {
+        match self.answer(call) {
+            Ok(()) => Ok(()),
+            Err(stop) => stop.show(self.rt),
         }
     }
-    Ok(())
-}
 
-// Prints all agreed messages in their order.
-fn show_agreed<L: Line>(rt: &HostRuntime, line: &L) -> anyhow::Result<()> {
-    let count = match line.count() {
-        Ok(count) => count,
-        Err(refusal) => return show_refusal(rt, refusal),
-    };
-    print!(rt; "agreed")?;
-    for i in 0..count {
-        let mut buffer = [0; MESSAGE];
-        if let Ok(length) = line.fetch(i + 1, &mut buffer) {
-            let text = hex_text(rt.alloc(), &buffer[0..length.min(MESSAGE)])?;
-            print!(rt; " {text}")?;
+    fn answer(&mut self, call: Call) -> Result<(), Stop> {
+        match call {
+            Call::Offer(suite, message) => {
+                self.line.offer(suite, message.as_slice())?;
+                println!(self.rt; "ok")?;
+            }
+            Call::Settle => {
+                self.line.settle()?;
+                println!(self.rt; "ok")?;
+            }
+            Call::Count => println!(self.rt; "count {}", self.line.count()?)?,
+            Call::Fetch(number, room) => self.fetch(number, room)?,
+            Call::Agreed => self.show_agreed()?,
         }
+        Ok(())
     }
-    println!(rt; "")?;
-    Ok(())
+
+    // Fetches into a buffer of `room` bytes, and prints the whole buffer.
+    fn fetch(&self, number: usize, room: usize) -> Result<(), Stop> {
+        let mut buffer = vec![in self.rt.alloc(); UNTOUCHED; room]?;
+        let answer = self.line.fetch(number, buffer.as_mut_slice());
+        let text = hex_text(self.rt.alloc(), buffer.as_slice())?;
+        match answer {
+            Ok(length) => println!(self.rt; "fetched {length} {text}")?,
+            Err(refusal) => println!(self.rt; "no {} {text}", refusal.number())?,
+        }
+        Ok(())
+    }
+
+    // Prints all agreed messages in their order.
+    fn show_agreed(&self) -> Result<(), Stop> {
+        let count = self.line.count()?;
+        print!(self.rt; "agreed")?;
+        for i in 0..count {
+            let mut buffer = [0; MESSAGE];
+            if let Ok(length) = self.line.fetch(i + 1, &mut buffer) {
+                let text = hex_text(self.rt.alloc(), &buffer[0..length])?;
+                print!(self.rt; " {text}")?;
+            }
+        }
+        println!(self.rt; "")?;
+        Ok(())
+    }
 }

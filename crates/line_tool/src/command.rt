@@ -1,11 +1,14 @@
 // What a script line asks for.
-use texts::{Fields, LineBuffer, hex, number, number_up_to};
+use crate::stop::{Misread, Stop};
+use std::alloc::Global;
+use std::num::TryFromIntError;
+use texts::{Fields, LineBuffer, hex_bytes, number_up_to};
 
 // The most bytes that a line is made over: a few more than 4,097 places have.
 const MOST_BYTES: u64 = 5_000_000;
 
-// The most bytes of a message or a buffer.
-pub(crate) const MOST_ROOM: usize = 2048;
+// The most bytes of a buffer.
+const MOST_ROOM: u64 = 2048;
 
 /// In which order a line settles.
 #[derive(Clone, Copy)]
@@ -17,23 +20,16 @@ pub(crate) enum Order {
 /// The line to make.
 #[derive(Clone, Copy)]
 pub(crate) struct Making {
-    pub(crate) order: Order,
-    pub(crate) bytes: usize,
-    pub(crate) fill: u8,
-}
-
-/// A message, given as the front of a buffer.
-#[derive(Drop)]
-pub(crate) struct Message {
-    pub(crate) buffer: [u8; MOST_ROOM],
-    pub(crate) length: usize,
+    pub order: Order,
+    pub bytes: usize,
+    pub fill: u8,
 }
 
 /// A call on the line.
 #[derive(Drop)]
 pub(crate) enum Call {
     /// A suite and its message.
-    Offer(usize, Message),
+    Offer(usize, Vec<u8>),
     Settle,
     Count,
     /// A message's number, and the bytes of the buffer.
@@ -48,66 +44,75 @@ pub(crate) enum Command {
     Perform(Call),
 }
 
-/// What a line asks for: nothing, a command, or, in words, why it cannot be met.
-pub(crate) fn command_of(line: &LineBuffer) -> Result<Option<Command>, &'static str> {
+/// The command of a line, if it is neither empty nor a comment.
+pub(crate) fn command_of(heap: Global, line: &LineBuffer) -> Result<Option<Command>, Stop> {
     let Some(bytes) = line.whole() else {
-        return Err("a line has at most 4096 bytes");
+        return Err(Stop::LongLine);
     };
     if let [] | [b'#', ..] = bytes {
         return Ok(None);
     }
-    let mut fields = Fields::new(bytes);
-    let Some(word) = fields.next() else {
-        return Ok(None);
-    };
-    let (command, form) = match word {
-        b"first-come" => (
-            making_of(&mut fields, Order::Offering),
-            "expected first-come BYTES FILL",
-        ),
-        b"turn" => (
-            making_of(&mut fields, Order::Turns),
-            "expected turn BYTES FILL",
-        ),
-        b"offer" => (offer_of(&mut fields), "expected offer SUITE HEX"),
-        b"settle" => (Some(Command::Perform(Call::Settle)), "expected settle"),
-        b"count" => (Some(Command::Perform(Call::Count)), "expected count"),
-        b"fetch" => (fetch_of(&mut fields), "expected fetch NUMBER ROOM"),
-        b"agreed" => (Some(Command::Perform(Call::Agreed)), "expected agreed"),
-        _ => return Err("unknown command"),
-    };
-    if command.is_none() || !fields.end() {
-        return Err(form);
+    let words: Vec<&[u8]> = Fields::new(bytes).collect(heap)?;
+    let form = form_of(words.as_slice())?;
+    match parse(heap, words.as_slice()) {
+        Ok(command) => Ok(Some(command)),
+        Err(Misread::Form) => Err(Stop::Expected(form)),
+        Err(Misread::Memory(e)) => Err(Stop::Memory(e)),
     }
-    Ok(command)
 }
 
-// The next field, a number that is at most a limit.
-fn next_up_to(fields: &mut Fields, most: u64) -> Option<usize> {
-    let n = number_up_to(fields.next()?, most)?;
-    Some(n as usize)
+// The form of the lines that begin with the first word.
+fn form_of(words: &[&[u8]]) -> Result<&'static str, Stop> {
+    match words {
+        [b"first-come", ..] => Ok("first-come BYTES FILL"),
+        [b"turn", ..] => Ok("turn BYTES FILL"),
+        [b"offer", ..] => Ok("offer SUITE HEX"),
+        [b"settle", ..] => Ok("settle"),
+        [b"count", ..] => Ok("count"),
+        [b"fetch", ..] => Ok("fetch NUMBER ROOM"),
+        [b"agreed", ..] => Ok("agreed"),
+        _ => Err(Stop::UnknownCommand),
+    }
 }
 
-fn next_number(fields: &mut Fields) -> Option<usize> {
-    let n = number(fields.next()?)?;
-    Some(n as usize)
+fn parse(heap: Global, words: &[&[u8]]) -> Result<Command, Misread> {
+    match words {
+        [b"first-come", bytes, fill] => make_line(Order::Offering, bytes, fill),
+        [b"turn", bytes, fill] => make_line(Order::Turns, bytes, fill),
+        [b"offer", suite, text] => {
+            let suite = integer(suite)?;
+            let message = hex_bytes(heap, text)?.ok_or(Misread::Form)?;
+            Ok(Command::Perform(Call::Offer(suite, message)))
+        }
+        [b"settle"] => Ok(Command::Perform(Call::Settle)),
+        [b"count"] => Ok(Command::Perform(Call::Count)),
+        [b"fetch", number, room] => {
+            let number = integer(number)?;
+            let room = integer_up_to(room, MOST_ROOM)?;
+            Ok(Command::Perform(Call::Fetch(number, room)))
+        }
+        [b"agreed"] => Ok(Command::Perform(Call::Agreed)),
+        _ => Err(Misread::Form),
+    }
 }
 
-fn making_of(fields: &mut Fields, order: Order) -> Option<Command> {
-    let bytes = next_up_to(fields, MOST_BYTES)?;
-    let fill = u8::try_from(next_number(fields)?).ok()?;
-    Some(Command::Make(Making { order, bytes, fill }))
+fn make_line(order: Order, bytes: &[u8], fill: &[u8]) -> Result<Command, Misread> {
+    Ok(Command::Make(Making {
+        order,
+        bytes: integer_up_to(bytes, MOST_BYTES)?,
+        fill: integer(fill)?,
+    }))
 }
 
-fn offer_of(fields: &mut Fields) -> Option<Command> {
-    let suite = next_number(fields)?;
-    let mut buffer = [0; MOST_ROOM];
-    let length = hex(fields.next()?, &mut buffer)?;
-    Some(Command::Perform(Call::Offer(suite, Message { buffer, length })))
+fn integer<N: TryFrom<u64, Error = TryFromIntError>>(word: &[u8]) -> Result<N, Misread> {
+    integer_up_to(word, u64::MAX)
 }
 
-fn fetch_of(fields: &mut Fields) -> Option<Command> {
-    let number = next_number(fields)?;
-    let room = next_up_to(fields, MOST_ROOM as u64)?;
-    Some(Command::Perform(Call::Fetch(number, room)))
+// The number that a word writes, which is at most a limit and fits its type.
+fn integer_up_to<N: TryFrom<u64, Error = TryFromIntError>>(
+    word: &[u8],
+    most: u64,
+) -> Result<N, Misread> {
+    let n = number_up_to(word, most).ok_or(Misread::Form)?;
+    N::try_from(n).map_err(|_| Misread::Form)
 }

@@ -1,63 +1,61 @@
 // The script: standard input, line by line.
-use std::io::Read;
+use crate::calls::Calls;
+use crate::command::{Call, Command, Making, Order, command_of};
+use lines::first_come::FirstCome;
+use lines::line::Line;
+use lines::turn::Turn;
+use std::io;
+use std::io::BufReader;
 use std::rt::Stdin;
-use texts::LineBuffer;
-
-// Bytes of a script line: the longest message in hexadecimal, and room for the rest.
-const LONGEST_LINE: usize = 4096;
-
-// Bytes that are read at a time.
-const CHUNK: usize = 4096;
+use texts::{LONGEST_LINE, LineBuffer};
 
 #[derive(Drop)]
-pub(crate) struct Script {
-    input: Stdin,
-    chunk: [u8; CHUNK],
-    // the bytes of the chunk that were read, and how many of them were given
-    filled: usize,
-    given: usize,
-    line: LineBuffer,
+pub(crate) struct Script<'a> {
+    rt: &'a HostRuntime,
+    input: BufReader<Stdin>,
 }
 
-impl Script {
-    pub(crate) fn new(rt: &HostRuntime) -> Script {
-        Script {
-            input: rt.stdin(),
-            chunk: [0; CHUNK],
-            filled: 0,
-            given: 0,
-            line: LineBuffer::new(rt.alloc(), LONGEST_LINE),
-        }
+impl<'a> Script<'a> {
+    pub(crate) fn new(rt: &'a HostRuntime) -> io::Result<Script<'a>> {
+        let input = BufReader::new(rt.alloc(), rt.stdin())?;
+        Ok(Script { rt, input })
     }
 
-    // The next byte, or none at the end of the input.
-    fn next_byte(&mut self) -> anyhow::Result<Option<u8>> {
-        if self.given >= self.filled {
-            self.filled = self.input.read(&mut self.chunk)?;
-            self.given = 0;
-        }
-        if self.given >= self.filled {
-            return Ok(None);
-        }
-        let byte = self.chunk.get(self.given).copied();
-        self.given += 1;
-        Ok(byte)
-    }
-
-    /// Reads the next line, and says whether there was one.
-    pub(crate) fn next(&mut self) -> anyhow::Result<bool> {
-        self.line.clear();
+    /// Runs the script up to where a line is to be made, or to its end.
+    pub(crate) fn run<F: FnMut(Call) -> anyhow::Result<()>>(
+        &mut self,
+        mut perform: F,
+    ) -> anyhow::Result<Option<Making>>
+        requires { F.IsAlwaysCallable perform }
+    {
+        let mut line = LineBuffer::new(self.rt.alloc(), LONGEST_LINE);
+        // the input ends it
         for _ in 0..u64::MAX {
-            match self.next_byte()? {
-                None => return Ok(!self.line.is_empty()),
-                Some(b'\n') => return Ok(true),
-                Some(byte) => self.line.push(byte)?,
+            if !line.read(&mut self.input)? {
+                break;
+            }
+            match command_of(self.rt.alloc(), &line) {
+                Ok(None) => {}
+                Ok(Some(Command::Make(making))) => return Ok(Some(making)),
+                Ok(Some(Command::Perform(call))) => perform(call)?,
+                Err(stop) => stop.show(self.rt)?,
             }
         }
-        Ok(false)
+        Ok(None)
     }
 
-    pub(crate) fn line(&self) -> &LineBuffer {
-        &self.line
+    /// Makes a line, and runs the script on it.
+    pub(crate) fn make(&mut self, making: Making) -> anyhow::Result<Option<Making>> {
+        let mut memory = vec![in self.rt.alloc(); making.fill; making.bytes]?;
+        match making.order {
+            Order::Offering => self.run_on(FirstCome::new(memory.as_mut_slice())),
+            Order::Turns => self.run_on(Turn::new(memory.as_mut_slice())),
+        }
+    }
+
+    fn run_on<L: Line + Drop>(&mut self, line: L) -> anyhow::Result<Option<Making>> {
+        println!(self.rt; "ok")?;
+        let mut calls = Calls { rt: self.rt, line };
+        self.run(|call| calls.perform(call))
     }
 }

@@ -1,5 +1,5 @@
 -- What a write to the bytes of one place leaves of its link and of its message.
-use Rattle.std.proofs.Common.{◌≡◌, ℕ, ◌+◌, ◌-◌, ◌*◌, ◌^◌, ◌<◌, ◌≤◌, min, List, [], ◌∷◌, ◌++◌, length, get_or, take, drop, set, sym, refl, ap, ◌∙◌, ap₂, arith}
+use Rattle.std.proofs.Common.{◌≡◌, ℕ, ◌+◌, ◌-◌, ◌*◌, ◌^◌, ◌<◌, ◌≤◌, min, List, [], ◌∷◌, ◌++◌, length, get_or, take, drop, set, sym, ap, ◌∙◌, ap₂, arith}
 use borrow.Rule.Slice.PartMut.{put_mid}
 use Rattle.number_bytes.proofs.Numbers.{number_of_two, number_big_endian, length_big_endian}
 use Rattle.number_bytes.proofs.Parts.{length_put}
@@ -18,10 +18,6 @@ link_is c h = number_of_two c 4 h
 pub length_is : (c : List ℕ) → 2 ≤ length c → length_in c ≡ min (get_or c 0 0 * 256 + get_or c 1 0) 1162
 unfolding length_in
 length_is c h = ap (λ n. min n 1162) (number_of_two c 0 h)
-
-pub suite_is : (c : List ℕ) → (offered_in c).suite ≡ get_or c 2 0
-unfolding offered_in
-suite_is c = refl
 
 pub message_is : (c : List ℕ) (n : ℕ) → n ≡ length_in c → take (6 + n - 6) (drop 6 c) ≡ (offered_in c).message
 unfolding offered_in

@@ -1,13 +1,10 @@
 -- What waits for each suite, of a queue: how it grows and shrinks with the queue, and how much it is for all suites together.
-use Rattle.std.proofs.Common.{◌≡◌, ℕ, zero, suc, ◌+◌, ◌<◌, Bool, true, false, cond, eqb, List, [], ◌∷◌, ◌++◌, length, get_or, drop, sym, refl, ap, ◌∙◌, arith}
-use Rattle.limits.proofs.Ranges.{not_outside_from}
-use Rattle.limits.specs.Limits.{outside}
-use Rattle.lines.specs.Lines.{AllowedLength, with_at, waiting_up_to}
+use Rattle.std.proofs.Common.{◌≡◌, ℕ, zero, suc, ◌<◌, Bool, true, false, cond, eqb, List, [], ◌∷◌, ◌++◌, length, get_or, drop, sym, refl, ap, ◌∙◌, arith}
+use Rattle.lines.specs.Lines.{with_at}
 use Rattle.lines.specs.Orders.{Offered, lane}
-use Rattle.lines.specs.Stores.{Sound, nothing, FirstOfSuite}
+use Rattle.lines.specs.Stores.{nothing, FirstOfSuite}
 use Rattle.std.proofs.lemmas.Bool.{eqb-true, eq-eqb, ne_eqb, cond-true, cond-false}
-use Rattle.std.proofs.lemmas.Bool.Decides.{nat_tests}
-use Rattle.std.specs.List.{remove, AllByRecursion}
+use Rattle.std.specs.List.{remove}
 
 -- ---- one more at the end
 
@@ -79,45 +76,3 @@ lane_removed q k u h first = by (eqb u (get_or q k nothing).suite) refl (less q 
         lane u (remove q k) ≡ cond t (drop 1 (lane (get_or q k nothing).suite q)) (lane u q)
     by true e h = h ∙ ap (λ v. drop 1 (lane v q)) (eqb-true u (get_or q k nothing).suite e)
     by false e h = h
-
--- ---- what holds of a queue of sound messages
-
-pub lane_fits : (q : List Offered) (u : ℕ) → AllByRecursion Sound q → AllByRecursion AllowedLength (lane u q)
-lane_fits [] u h = tt
-lane_fits (o ∷ os) u h = by (eqb u o.suite) (lane_fits os u h.1)
-  where
-    by : (t : Bool) → AllByRecursion AllowedLength (lane u os) → AllByRecursion AllowedLength (cond t (o.message ∷ lane u os) (lane u os))
-    by true fits = ((h.0.2, h.0.3), fits)
-    by false fits = fits
-
--- a suite that none of them is for has nothing waiting
-pub lane_empty : (q : List Offered) (u : ℕ) → ((j : ℕ) → j < length q → (get_or q j nothing).suite ≡ u → ⊥) → lane u q ≡ []
-lane_empty [] u none = refl
-lane_empty (o ∷ os) u none =
-    cond-false _ _ _ (ne_eqb u o.suite (λ e. none 0 (omega arith) (sym e)))
-    ∙ lane_empty os u (λ j small e. none (suc j) (omega arith) e)
-
--- all lanes together are as long as the queue
-pub lanes_long : (q : List Offered) → AllByRecursion Sound q → waiting_up_to 8 (λ u. lane u q) ≡ length q
-unfolding waiting_up_to
-lanes_long [] h = none 8
-  where
-    none : (n : ℕ) → waiting_up_to n (λ u. []) ≡ 0
-    none zero = refl
-    none (suc n) = omega (arith, none n)
-lanes_long (o ∷ os) h =
-    more 8 ∙ ap (λ n. n + cond (outside 8 o.suite) 0 1) (lanes_long os h.1)
-    ∙ ap (λ t. length os + cond t 0 1) (not_outside_from 8 o.suite h.0.0 h.0.1)
-    ∙ omega arith
-  where
-    longer : (t : Bool) (u : ℕ) → length (cond t (o.message ∷ lane u os) (lane u os)) ≡ length (lane u os) + cond t 1 0
-    longer true u = omega arith
-    longer false u = omega arith
-
-    -- of the suites 1 to n, the lane of its own suite alone is one longer
-    more : (n : ℕ) → waiting_up_to n (λ u. lane u (o ∷ os)) ≡ waiting_up_to n (λ u. lane u os) + cond (outside n o.suite) 0 1
-    more zero = grind (arith, nat_tests)
-    more (suc n) =
-        let rest = more n in
-        let one = longer (eqb (suc n) o.suite) (suc n) in
-        grind (arith, nat_tests)

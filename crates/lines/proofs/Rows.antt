@@ -2,19 +2,11 @@
 use Rattle.std.proofs.Common.{◌≡◌, ℕ, ◌/◌, ◌<◌, min, ◌⊎◌, List, map, length, get_or, set, sym, refl, ap, ◌∙◌, subst, ap₂, inl, inr, arith}
 use Rattle.lines.specs.Orders.{Offered}
 use Rattle.lines.specs.Places.{link_in, offered_in, link_at, offered_at, places_used, order, row, ChangedAt, Reordered, LinksInside, LinksApart}
+use Rattle.lines.specs.StoreLaws.{length_order, length_row}
 use Rattle.lines.specs.Stores.{nothing}
-use Rattle.std.proofs.lemmas.List.FromFn.{length-range_with_len, get_or-map-range_with_len}
+use Rattle.std.proofs.lemmas.List.FromFn.{get_or-map-range_with_len}
 use Rattle.std.proofs.lemmas.List.{ext_get_or, get_or-map, get_or-set_same, get_or-set_other, length-map, length-set}
 use Rattle.std.proofs.lemmas.Bool.{cases_eq}
-use Rattle.std.specs.List.{range_with_len}
-
-pub length_order : (bs : List ℕ) → length (order bs) ≡ places_used bs
-unfolding order
-length_order bs = length-map (range_with_len 0 (places_used bs)) (link_at bs) ∙ length-range_with_len 0 (places_used bs)
-
-pub length_row : (bs : List ℕ) → length (row bs) ≡ places_used bs
-unfolding row
-length_row bs = length-map (order bs) (offered_at bs) ∙ length_order bs
 
 pub order_at : (bs : List ℕ) (i : ℕ) → i < places_used bs → get_or (order bs) i 0 ≡ link_at bs i
 unfolding order
@@ -25,7 +17,7 @@ unfolding row
 row_at bs i h = get_or-map (offered_at bs) (order bs) i 0 nothing (omega (arith, length_order bs))
 
 -- as many bytes, as many places
-used_same : (bs bs' : List ℕ) → length bs' ≡ length bs → places_used bs' ≡ places_used bs
+pub used_same : (bs bs' : List ℕ) → length bs' ≡ length bs → places_used bs' ≡ places_used bs
 used_same bs bs' e = ap (λ n. min (n / 1168) 4096) e
 
 -- another link in place i

@@ -1,12 +1,12 @@
 -- The steps of the store, over the bytes and the two counts: what a step leaves good, and what the store then means.
-use Rattle.std.proofs.Common.{◌≡◌, ℕ, ◌+◌, ◌-◌, ◌/◌, ◌<◌, ◌≤◌, min, ◌⊎◌, List, [], ◌∷◌, ◌++◌, length, get_or, take, drop, set, Ok, sym, ap, ◌∙◌, subst, ap₂, inl, inr, arith}
+use Rattle.std.proofs.Common.{◌≡◌, ℕ, ◌+◌, ◌-◌, ◌/◌, ◌<◌, ◌≤◌, ◌⊎◌, List, [], ◌∷◌, ◌++◌, length, get_or, take, drop, set, Ok, sym, ap, ◌∙◌, subst, ap₂, inl, inr, arith}
 use Rattle.lines.proofs.Bringing.{back, Came, came, length_brought, brought_more, map_brought, take_brought, rest_brought}
-use Rattle.lines.proofs.Rows.{length_order, length_row, order_at, row_at, reordered_twice, reordered_row, refilled_used, refilled_order, refilled_row}
+use Rattle.lines.proofs.Rows.{order_at, reordered_twice, reordered_row, used_same, refilled_used, refilled_order, refilled_row}
+use Rattle.lines.specs.StoreLaws.{length_order, length_row}
 use Rattle.lines.specs.Orders.{Offered}
-use Rattle.lines.specs.Places.{link_at, offered_at, places_in, places_used, order, row, exchange, brought, ChangedAt, Reordered, LinksInside}
+use Rattle.lines.specs.Places.{link_at, offered_at, places_in, places_used, order, row, exchange, brought, ChangedAt, Reordered}
 use Rattle.lines.specs.Stores.{Sound, nothing, Good, stored, empty, stored_offer, stored_settle}
-use Rattle.std.proofs.lemmas.List.Edits.{get_or-between}
-use Rattle.std.proofs.lemmas.List.{get_or-take, get_or-set_same, get_or-set_other, take-set-le, take_more_set, drop-set-add, length-drop}
+use Rattle.std.proofs.lemmas.List.{get_or-set_same, get_or-set_other, take-set-le, take_more_set, drop-set-add, length-drop}
 use Rattle.std.proofs.lemmas.Bool.{cases_eq}
 use Rattle.std.specs.List.{between}
 
@@ -32,18 +32,6 @@ module _ (bs bs' : List ℕ) (len : length bs' ≡ length bs)
   pub made_empty : stored bs' 0 0 ≡ empty bs
   unfolding stored
   made_empty = λ i. record { agreed = []; queue = []; limit = places_same bs bs' len i }
-
--- ---- looked at
-
-pub queue_at : (bs : List ℕ) (a w k : ℕ) → k < w → a + w ≤ places_used bs →
-    get_or (stored bs a w).queue k nothing ≡ offered_at bs (get_or (order bs) (a + k) 0)
-unfolding stored
-queue_at bs a w k small room = get_or-between (row bs) a (a + w) k nothing (omega arith) ∙ row_at bs (a + k) (omega arith)
-
-pub agreed_at : (bs : List ℕ) (a w i : ℕ) → i < a → a ≤ places_used bs →
-    get_or (stored bs a w).agreed i nothing ≡ offered_at bs (get_or (order bs) i 0)
-unfolding stored
-agreed_at bs a w i small room = get_or-take a (row bs) i nothing small ∙ row_at bs i (omega arith)
 
 -- ---- offered: another message in the place that comes after all that are taken
 
@@ -98,15 +86,7 @@ module _ (bs bs' : List ℕ) (a w p : ℕ) (o : Offered) (good : Good bs a w) (t
     limit = places_same bs bs' changed.len i;
   }
 
--- ---- brought: one step, and what a step needs
-
-pub brought_inside : (bs bs' : List ℕ) (to from : ℕ) → to ≤ from → from < places_used bs → LinksInside bs →
-    Reordered bs bs' (brought 0 to from (order bs)) → LinksInside bs'
-brought_inside bs bs' to from forward there inside change i h =
-    let used : places_used bs' ≡ places_used bs = ap (λ n. min (n / 1168) 4096) change.len in
-    let old = came 0 to from (order bs) forward (omega (arith, length_order bs)) (places_used bs) i there (omega arith) in
-    let was : get_or (order bs) old.j 0 < places_used bs = inside old.j old.within in
-    omega (arith, old.same, ap (λ xs. get_or xs i 0) change.order_is)
+-- ---- brought: one step
 
 pub brought_step : (bs bs' bs'' : List ℕ) (i from : ℕ) → i < from → from < places_used bs →
     Reordered bs bs' (brought 0 (i + 1) from (order bs)) →
@@ -124,8 +104,8 @@ module _ (bs bs' : List ℕ) (a w k : ℕ) (good : Good bs a w) (small : k < w)
   there : a + k < length (order bs)
   there = omega (arith, good.room, length_order bs)
 
-  used_same : places_used bs' ≡ places_used bs
-  used_same = ap (λ n. min (n / 1168) 4096) change.len
+  same_used : places_used bs' ≡ places_used bs
+  same_used = used_same bs bs' change.len
 
   -- place i of the new order was some place j of the old one
   from_old : (i : ℕ) → i < places_used bs → Came 0 a (a + k) (order bs) (omega arith) there (places_used bs) i
@@ -152,13 +132,13 @@ module _ (bs bs' : List ℕ) (a w k : ℕ) (good : Good bs a w) (small : k < w)
 
   pub settled_good : Good bs' (a + 1) (w - 1)
   settled_good = record {
-    room = omega (arith, good.room, used_same);
+    room = omega (arith, good.room, same_used);
     inside = λ i h.
-        let was : get_or (brought 0 a (a + k) (order bs)) i 0 < places_used bs = inside_brought i (omega (arith, used_same)) in
-        omega (arith, used_same, ap (λ xs. get_or xs i 0) change.order_is);
+        let was : get_or (brought 0 a (a + k) (order bs)) i 0 < places_used bs = inside_brought i (omega (arith, same_used)) in
+        omega (arith, same_used, ap (λ xs. get_or xs i 0) change.order_is);
     apart = λ i j h.
-        let one = from_old i (omega (arith, h.0, used_same)) in
-        let two = from_old j (omega (arith, h.1, used_same)) in
+        let one = from_old i (omega (arith, h.0, same_used)) in
+        let two = from_old j (omega (arith, h.1, same_used)) in
         let same = sym one.same ∙ sym (ap (λ xs. get_or xs i 0) change.order_is) ∙ h.2 ∙ ap (λ xs. get_or xs j 0) change.order_is ∙ two.same in
         sym one.goes ∙ ap (λ n. back a (a + k) n) (good.apart one.j two.j (one.within, two.within, same)) ∙ two.goes;
     sound = λ i h. new_sound i (omega arith);

@@ -6,7 +6,8 @@
 use Rattle.std.specs.Prelude.{ℕ, List}
 use Rattle.std.specs.Borrow.{MutBor}
 use Rattle.lines.specs.Orders.{arrivals}
-use Rattle.lines.specs.Stores.{Stored, memory, view, state_of}
+use Rattle.lines.specs.Stores.{Stored, state_of}
+use Rattle.lines.specs.Views.{memory, view}
 use Rattle.lines.specs.declared.first_come.FirstCome.{FirstCome}
 
 -- what a first-come line holds

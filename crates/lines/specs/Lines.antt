@@ -25,7 +25,7 @@
 --   fetch_answer     what fetching answers
 --   after_fetch      what the buffer holds after a fetch
 --   SameIfRefused    a refused call leaves this as it was
-use Rattle.std.specs.Prelude.{◌≡◌, ℕ, zero, suc, ◌+◌, ◌-◌, ◌<◌, ◌≤◌, Bool, true, cond, List, [], ◌∷◌, ◌++◌, length, take, drop, Ok, Err, Result, ◌==◌, nat_le, nat_lt, slice_index_or}
+use Rattle.std.specs.Prelude.{◌≡◌, ℕ, zero, suc, ◌+◌, ◌-◌, ◌<◌, ◌≤◌, Bool, true, if◌then◌else◌, List, [], ◌∷◌, ◌++◌, length, take, drop, Ok, Err, Result, ◌==◌, nat_le, nat_lt, slice_index_or}
 use Rattle.limits.specs.Limits.{most_suites, most_held, longest_message, outside}
 use Rattle.refusals.specs.declared.Refusal.{Refusal}
 use Rattle.refusals.specs.declared.Refusal.TheVariants.{MemorySize, NoSuchSlot, LineFull, NothingWaiting, MessageLength, NoSuchMessage}
@@ -40,7 +40,7 @@ pub record LineState : Type 0 where
 
 -- f, but x at u
 unfoldable pub with_at : {X : Type 0} → (ℕ → X) → ℕ → X → ℕ → X
-with_at f u x v = cond (v == u) x (f v)
+with_at f u x v = if v == u then x else f v
 
 -- how many messages wait for the suites 1 to u, all together
 unfoldable pub waiting_up_to : ℕ → (ℕ → List (List ℕ)) → ℕ
@@ -80,10 +80,11 @@ pub record Lawful (m : LineState) : Type 0 where
 -- the first refusal of an offer to a line with this limit that holds so many messages, for this suite, of so many bytes
 abbrev pub offer_check : ℕ → ℕ → ℕ → ℕ → Result (Unit {0}) Refusal
 offer_check limit total suite bytes =
-    cond (unusable limit) (Err MemorySize)
-    (cond (outside most_suites suite) (Err NoSuchSlot)
-    (cond (nat_le limit total) (Err LineFull)
-    (cond (outside longest_message bytes) (Err MessageLength) (Ok tt))))
+    if unusable limit then Err MemorySize
+    else if outside most_suites suite then Err NoSuchSlot
+    else if nat_le limit total then Err LineFull
+    else if outside longest_message bytes then Err MessageLength
+    else Ok tt
 
 -- what offering answers
 abbrev pub offer_answer : LineState → ℕ → List ℕ → Result (Unit {0}) Refusal
@@ -107,7 +108,7 @@ after_offer (Err _) m suite message = m
 -- the first refusal of a settle of a line with this limit where so many messages wait
 abbrev pub settle_check : ℕ → ℕ → Result (Unit {0}) Refusal
 settle_check limit waiting =
-    cond (unusable limit) (Err MemorySize) (cond (waiting == 0) (Err NothingWaiting) (Ok tt))
+    if unusable limit then Err MemorySize else if waiting == 0 then Err NothingWaiting else Ok tt
 
 -- what settling answers
 abbrev pub settle_answer : LineState → Result (Unit {0}) Refusal
@@ -136,7 +137,7 @@ Settles (Err _) before after = after ≡ before
 
 -- what counting answers on a line with this limit where so many messages are agreed
 abbrev pub count_check : ℕ → ℕ → Result ℕ Refusal
-count_check limit agreed = cond (unusable limit) (Err MemorySize) (Ok agreed)
+count_check limit agreed = if unusable limit then Err MemorySize else Ok agreed
 
 -- what counting answers
 abbrev pub count_answer : LineState → Result ℕ Refusal
@@ -148,9 +149,10 @@ count_answer m = count_check m.limit (length m.agreed)
 -- and the buffer has `room`
 abbrev pub fetch_check : ℕ → ℕ → ℕ → ℕ → ℕ → Result ℕ Refusal
 fetch_check limit agreed k bytes room =
-    cond (unusable limit) (Err MemorySize)
-    (cond (outside agreed k) (Err NoSuchMessage)
-    (cond (nat_lt room bytes) (Err NoSuchMessage) (Ok bytes)))
+    if unusable limit then Err MemorySize
+    else if outside agreed k then Err NoSuchMessage
+    else if nat_lt room bytes then Err NoSuchMessage
+    else Ok bytes
 
 -- the agreed message of this number; the first has number 1
 abbrev pub message_number : LineState → ℕ → List ℕ

@@ -13,7 +13,7 @@
 --   turn_picks            the suite that a turn line serves
 --   ServesTurn            that a settle served the first suite from the turn on for which a message waited
 --   ByTurn                what a settle of a turn line does
-use Rattle.std.specs.Prelude.{◌≡◌, ℕ, zero, suc, ◌+◌, ◌-◌, ◌<◌, Bool, cond, List, [], ◌∷◌, ◌++◌, map, length, Ok, Err, Result, ◌==◌, nat_le, nat_lt}
+use Rattle.std.specs.Prelude.{◌≡◌, ℕ, zero, suc, ◌+◌, ◌-◌, ◌<◌, Bool, if◌then◌else◌, List, [], ◌∷◌, ◌++◌, map, length, Ok, Err, Result, ◌==◌, nat_le, nat_lt}
 use Rattle.limits.specs.Limits.{most_suites}
 use Rattle.refusals.specs.declared.Refusal.{Refusal}
 use Rattle.lines.specs.Lines.{LineState, settled}
@@ -26,7 +26,7 @@ pub record Offered : Type 0 where
 -- what waits for suite u, of a queue of offered messages
 abbrev pub lane : ℕ → List Offered → List (List ℕ)
 lane u [] = []
-lane u (o ∷ os) = cond (u == o.suite) (o.message ∷ lane u os) (lane u os)
+lane u (o ∷ os) = if u == o.suite then o.message ∷ lane u os else lane u os
 
 -- ---- the first-come line: one queue of all that waits
 
@@ -60,16 +60,16 @@ FirstComeOrder (Err _) queue queue' before after = queue' ≡ queue
 
 -- the suite d after another, for d up to 8; after 8 comes 1
 abbrev pub suite_after : ℕ → ℕ → ℕ
-suite_after suite d = cond (nat_le (suite + d) most_suites) (suite + d) (suite + d - most_suites)
+suite_after suite d = if nat_le (suite + d) most_suites then suite + d else suite + d - most_suites
 
 -- how many suites after the turn a suite comes, where 1 comes after 8
 abbrev pub steps_to : ℕ → ℕ → ℕ
-steps_to turn suite = cond (nat_le turn suite) (suite - turn) (suite + most_suites - turn)
+steps_to turn suite = if nat_le turn suite then suite - turn else suite + most_suites - turn
 
 -- the first of the k numbers from d on that passes the test, or the number after them
 abbrev pub first_that : (ℕ → Bool) → ℕ → ℕ → ℕ
 first_that test zero d = d
-first_that test (suc k) d = cond (test d) d (first_that test k (d + 1))
+first_that test (suc k) d = if test d then d else first_that test k (d + 1)
 
 -- the suite that is served: the first with a waiting message, from the turn upwards and round
 unfoldable pub turn_picks : (ℕ → List (List ℕ)) → ℕ → ℕ

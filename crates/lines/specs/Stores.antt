@@ -6,23 +6,17 @@
 --   Good           what always holds of the bytes and the two counts of a store
 --   Stored         what a store means
 --   stored         what the bytes and the two counts mean
---   memory         the handed bytes, as the store holds them
---   view           what a store means, of the store's own type
---   GoodStore      that what always holds of a store holds
 --   empty          an empty store
 --   state_of       what a line over such a store means
---   line_of        the same, of the store's own type
 --   stored_offer   after an offer
 --   stored_settle  after a message of the queue was settled
 --   FirstOfSuite   none before it in the queue is for its suite
 use Rattle.std.specs.Prelude.{ℕ, ◌+◌, ◌<◌, ◌≤◌, List, [], ◌∷◌, ◌++◌, map, length, take, Result, ◌≢◌, slice_index_or}
-use Rattle.std.specs.Borrow.{MutBor}
 use Rattle.limits.specs.Limits.{most_suites, longest_message}
 use Rattle.refusals.specs.declared.Refusal.{Refusal}
 use Rattle.std.specs.List.{between, remove}
 use Rattle.lines.specs.Lines.{LineState}
 use Rattle.lines.specs.Orders.{Offered, lane, queue_after_offer}
-use Rattle.lines.specs.declared.store.Store.{Store}
 use Rattle.lines.specs.Places.{places_in, places_used, row, LinksInside, LinksApart}
 
 -- no message, for no suite
@@ -58,18 +52,6 @@ stored bs agreed waiting = record {
   limit = places_in bs;
 }
 
--- the handed bytes, as the store holds them
-abbrev pub memory : Store → MutBor (List ℕ)
-memory s = s.places.bytes
-
--- what a store means
-abbrev pub view : Store → Stored
-view s = stored (memory s).now s.agreed s.waiting
-
--- what always holds of a store
-abbrev pub GoodStore : Store → Type 0
-GoodStore s = Good (memory s).now s.agreed s.waiting
-
 -- an empty store over these bytes
 abbrev pub empty : List ℕ → Stored
 empty bs = record { agreed = []; queue = []; limit = places_in bs }
@@ -77,10 +59,6 @@ empty bs = record { agreed = []; queue = []; limit = places_in bs }
 -- what a line over such a store means
 unfoldable pub state_of : Stored → LineState
 state_of s = record { agreed = map (λ o. o.message) s.agreed; waiting = λ u. lane u s.queue; limit = s.limit }
-
--- what a line over this store means
-abbrev pub line_of : Store → LineState
-line_of s = state_of (view s)
 
 -- the store after an offer that was answered so
 abbrev pub stored_offer : Result (Unit {0}) Refusal → Stored → ℕ → List ℕ → Stored

@@ -5,7 +5,8 @@
 --   turn_of      the suite whose turn it is
 use Rattle.std.specs.Prelude.{ℕ, List}
 use Rattle.std.specs.Borrow.{MutBor}
-use Rattle.lines.specs.Stores.{Stored, memory, view}
+use Rattle.lines.specs.Stores.{Stored}
+use Rattle.lines.specs.Views.{memory, view}
 use Rattle.lines.specs.declared.turn.Turn.{Turn}
 
 -- what a turn line holds

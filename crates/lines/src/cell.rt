@@ -1,54 +1,52 @@
 // The bytes of one place: the message's length (2 bytes), its suite, a spare byte, a link (2 bytes), the message.
-ghost use Rattle.std.specs.Prelude.{◌≡◌, ◌^◌, ◌<◌, ◌≤◌, length};
+ghost use Rattle.std.specs.Prelude.{◌≡◌, ◌≤◌, length};
 ghost use Rattle.limits.specs.Limits.{line_place, longest_message};
 ghost use Rattle.lines.specs.Places.{link_in, offered_in};
 
-use limits::{LINE_HEADER, MESSAGE};
+use limits::{LINE_HEADER, LINE_PLACE, MESSAGE};
 
 /// The link.
-pub(crate) fn link_of(cell: &[u8]) -> usize
-    requires { length cell.now ≡ line_place }
+pub(crate) fn link_of(cell: &[u8; LINE_PLACE]) -> u16
     ensures { result ≡ link_in cell.now }
 {
-    usize::from(u16::from_be_bytes([cell[4], cell[5]]))
+    u16::from_be_bytes([cell[4], cell[5]])
 }
 
 /// The suite of the message.
-pub(crate) fn suite_of(cell: &[u8]) -> usize
-    requires { length cell.now ≡ line_place }
+#[tactic(auto, unfolding(crate::specs::Places::offered_in))]
+pub(crate) fn suite_of(cell: &[u8; LINE_PLACE]) -> u8
     ensures { result ≡ (offered_in cell.now).suite }
 {
-    usize::from(cell[2])
+    cell[2]
 }
 
 /// The message.
-pub(crate) fn message_of(cell: &[u8]) -> &[u8]
-    requires { length cell.now ≡ line_place }
+pub(crate) fn message_of(cell: &[u8; LINE_PLACE]) -> &[u8]
     ensures { result.now ≡ (offered_in cell.now).message }
 {
     let length = usize::from(u16::from_be_bytes([cell[0], cell[1]])).min(MESSAGE);
     &cell[LINE_HEADER..LINE_HEADER + length]
 }
 
+// What writes takes a slice: where a part of the places is lent as an array, a proof does not learn what was written.
+
 /// Puts another link, and leaves the message.
-pub(crate) fn put_link(cell: &mut [u8], link: usize)
-    requires cell_len { length cell.old ≡ line_place }
-    requires link_bound { link < 2 ^ 16 }
+pub(crate) fn put_link(cell: &mut [u8], link: u16)
+    requires { length cell.old ≡ line_place }
     ensures link { link_in cell.new ≡ link }
     ensures message { offered_in cell.new ≡ offered_in cell.old }
 {
-    cell[4..6].copy_from_slice(&(link as u16).to_be_bytes());
+    cell[4..6].copy_from_slice(&link.to_be_bytes());
 }
 
 /// Puts another message, and leaves the link.
-pub(crate) fn put_message(cell: &mut [u8], suite: usize, message: &[u8])
+pub(crate) fn put_message(cell: &mut [u8], suite: u8, message: &[u8])
     requires cell_len { length cell.old ≡ line_place }
-    requires suite_bound { suite < 2 ^ 8 }
     requires message_len_bound { length message.now ≤ longest_message }
     ensures link { link_in cell.new ≡ link_in cell.old }
     ensures message { offered_in cell.new ≡ record { suite = suite; message = message.now } }
 {
     cell[0..2].copy_from_slice(&(message.len() as u16).to_be_bytes());
-    cell[2] = suite as u8;
+    cell[2] = suite;
     cell[LINE_HEADER..LINE_HEADER + message.len()].copy_from_slice(message);
 }

@@ -31,4 +31,7 @@ pub trait Line {
         ensures answer { result ≡ fetch_answer (state self.now) number (length buffer.old) }
         ensures buffer { buffer.new ≡ after_fetch result (message_number (state self.now) number) buffer.old }
         ensures law { Lawful (state self.now) };
+
+    // every line is lawful at every moment
+    ghost lawful: { (l : Self) → Lawful (state l) };
 }

@@ -1,10 +1,11 @@
-// Places over handed bytes, each with a message and a link.
-ghost use Rattle.std.specs.Prelude.{◌≡◌, ◌^◌, ◌<◌, ◌≤◌, length};
-ghost use Rattle.limits.specs.Limits.{longest_message};
-ghost use Rattle.lines.specs.Places.{places_in, link_at, offered_at, ChangedAt};
+// Places over handed bytes, each with a message and a link. The links, read one after the other, are the order of the places.
+ghost use Rattle.std.specs.Prelude.{◌≡◌, ◌+◌, ◌*◌, ◌<◌, ◌≤◌, length, slice_index};
+ghost use Rattle.limits.specs.Limits.{line_place, longest_message};
+ghost use Rattle.lines.specs.Places.{cell, places_in, places_used, link_at, offered_at, order, exchange, brought, ChangedAt, Reordered};
 
-use crate::cell::{link_of, message_of, put_link, put_message, suite_of};
+use crate::cell::{link_of, put_link, put_message};
 use limits::LINE_PLACE;
+use std::ops::Range;
 
 #[derive(Drop)]
 pub(crate) struct Places<'a> {
@@ -26,57 +27,79 @@ impl<'a> Places<'a> {
         self.bytes.len() / LINE_PLACE
     }
 
-    /// The link in a place.
-    pub(crate) fn link(&self, place: usize) -> usize
+    // Where the bytes of a place stand.
+    fn extent(&self, place: usize) -> Range<usize>
         requires { place < places_in self.now.bytes.now }
-        ensures { result ≡ link_at self.now.bytes.now place }
+        ensures start { result.start ≡ line_place * place }
+        ensures end { result.end ≡ line_place * place + line_place }
     {
         let start = LINE_PLACE * place;
-        link_of(&self.bytes[start..start + LINE_PLACE])
+        start..start + LINE_PLACE
     }
 
-    /// The suite of the message in a place.
-    pub(crate) fn suite(&self, place: usize) -> usize
+    /// The bytes of a place.
+    #[tactic(auto, unfolding(crate::specs::Places::cell))]
+    pub(crate) fn cell(&self, place: usize) -> &[u8; LINE_PLACE]
         requires { place < places_in self.now.bytes.now }
-        ensures { result ≡ (offered_at self.now.bytes.now place).suite }
+        ensures { result.now ≡ cell self.now.bytes.now place }
     {
-        let start = LINE_PLACE * place;
-        suite_of(&self.bytes[start..start + LINE_PLACE])
+        self.bytes[self.extent(place)].as_array().unwrap()
     }
 
-    /// The message in a place.
-    pub(crate) fn message(&self, place: usize) -> &[u8]
-        requires { place < places_in self.now.bytes.now }
-        ensures { result.now ≡ (offered_at self.now.bytes.now place).message }
+    /// The place that comes i-th in the order.
+    pub(crate) fn place(&self, i: usize) -> u16
+        requires { i < places_used self.now.bytes.now }
+        ensures { result ≡ slice_index (order self.now.bytes.now) i }
     {
-        let start = LINE_PLACE * place;
-        message_of(&self.bytes[start..start + LINE_PLACE])
+        link_of(self.cell(i))
     }
 
     /// Puts another link into a place.
-    pub(crate) fn set_link(&mut self, place: usize, link: usize)
-        requires place_bound { place < places_in self.old.bytes.now }
-        requires link_bound { link < 2 ^ 16 }
+    pub(crate) fn set_link(&mut self, place: usize, link: u16)
+        requires { place < places_in self.old.bytes.now }
         ensures changed { ChangedAt self.old.bytes.now self.new.bytes.now place }
         ensures memory { self.new.bytes.ghost_name ≡ self.old.bytes.ghost_name }
         ensures link { link_at self.new.bytes.now place ≡ link }
         ensures message { offered_at self.new.bytes.now place ≡ offered_at self.old.bytes.now place }
     {
-        let start = LINE_PLACE * place;
-        put_link(&mut self.bytes[start..start + LINE_PLACE], link);
+        let extent = self.extent(place);
+        put_link(&mut self.bytes[extent], link);
     }
 
     /// Puts another message into a place.
-    pub(crate) fn set_message(&mut self, place: usize, suite: usize, message: &[u8])
+    pub(crate) fn set_message(&mut self, place: usize, suite: u8, message: &[u8])
         requires place_bound { place < places_in self.old.bytes.now }
-        requires suite_bound { suite < 2 ^ 8 }
         requires message_len_bound { length message.now ≤ longest_message }
         ensures changed { ChangedAt self.old.bytes.now self.new.bytes.now place }
         ensures memory { self.new.bytes.ghost_name ≡ self.old.bytes.ghost_name }
         ensures link { link_at self.new.bytes.now place ≡ link_at self.old.bytes.now place }
         ensures message { offered_at self.new.bytes.now place ≡ record { suite = suite; message = message.now } }
     {
-        let start = LINE_PLACE * place;
-        put_message(&mut self.bytes[start..start + LINE_PLACE], suite, message);
+        let extent = self.extent(place);
+        put_message(&mut self.bytes[extent], suite, message);
+    }
+
+    // Swaps two neighbours in the order.
+    fn swap(&mut self, i: usize)
+        requires { i + 1 < places_used self.old.bytes.now }
+        ensures memory { self.new.bytes.ghost_name ≡ self.old.bytes.ghost_name }
+        ensures order { Reordered self.old.bytes.now self.new.bytes.now (exchange i (order self.old.bytes.now)) }
+    {
+        let first = self.place(i);
+        let second = self.place(i + 1);
+        self.set_link(i, second);
+        self.set_link(i + 1, first);
+    }
+
+    /// Brings what stands at `from` in the order forward to `to`.
+    pub(crate) fn bring(&mut self, from: usize, to: usize)
+        requires from_bound { from < places_used self.old.bytes.now }
+        requires to_le_from { to ≤ from }
+        ensures memory { self.new.bytes.ghost_name ≡ self.old.bytes.ghost_name }
+        ensures order { Reordered self.old.bytes.now self.new.bytes.now (brought 0 to from (order self.old.bytes.now)) }
+    {
+        for i in (to..from).rev() {
+            self.swap(i);
+        }
     }
 }

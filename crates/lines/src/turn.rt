@@ -1,10 +1,8 @@
 // The turn line: suites with waiting messages are served one after the other, and after suite 8 comes suite 1.
 mod calls;
 
-ghost use Rattle.std.specs.Prelude.{◌+◌, ◌≤◌};
+ghost use Rattle.std.specs.Prelude.{◌≤◌};
 ghost use Rattle.limits.specs.Limits.{most_suites};
-ghost use Rattle.lines.specs.Places.{places_used, LinksInside, LinksApart};
-ghost use Rattle.lines.specs.Stores.{AllSound};
 
 use crate::store::Store;
 
@@ -13,11 +11,6 @@ use crate::store::Store;
 pub struct Turn<'a> {
     store: Store<'a>,
     turn: usize,
-    // what always holds of the store
-    ghost room: { store.agreed + store.waiting ≤ places_used store.places.bytes.now },
-    ghost inside: { LinksInside store.places.bytes.now },
-    ghost apart: { LinksApart store.places.bytes.now },
-    ghost sound: { AllSound store.places.bytes.now (store.agreed + store.waiting) },
     // the turn is with a suite
     ghost from_1: { 1 ≤ turn },
     ghost up_to_8: { turn ≤ most_suites },

@@ -1,51 +1,44 @@
-// The message tool: reads lines, and answers each (docs/TOOL.md).
+// The message tool: reads lines, and answers each.
 #![tactic(auto)]
 
 mod command;
 mod draft;
 mod notation;
-mod show;
+mod session;
 mod stop;
+mod tool;
 
-use command::{Tool, answer};
-use std::io::Read;
-use stop::Stop;
-use texts::LineBuffer;
-
-// Bytes of a line: the longest message in hexadecimal, and room for the rest.
-const LONGEST_LINE: usize = 4096;
-
-// Answers one line, and says in words what cannot be met.
-fn respond(rt: &HostRuntime, tool: &mut Tool, line: &LineBuffer) -> anyhow::Result<()> {
-    match answer(rt, tool, line) {
-        Ok(()) => Ok(()),
-        Err(Stop::Cannot(words)) => Ok(println!(rt; "error: {words}")?),
-        Err(Stop::Expected(form)) => Ok(println!(rt; "error: expected {form}")?),
-        Err(Stop::Failed(e)) => Err(e),
-    }
-}
+use command::{SettingKind, SummaryKind};
+use settings::colour::Colour;
+use settings::link::Link;
+use std::io;
+use std::io::{BufReader, Read};
+use summaries::bloom::Bloom;
+use summaries::exact_list::ExactList;
+use tool::Tool;
 
 fn run(rt: &HostRuntime) -> anyhow::Result<()> {
-    let mut tool = Tool::new();
-    let mut line = LineBuffer::new(rt.alloc(), LONGEST_LINE);
-    let mut input = rt.stdin();
+    // once the input has ended, it is not asked again
+    let mut input = BufReader::new(rt.alloc(), rt.stdin().chain(io::empty()))?;
+    let mut session = None;
+    let mut kinds = Some((SettingKind::Colours, SummaryKind::Exact));
+    // the input ends it
     for _ in 0..u64::MAX {
-        let mut chunk = [0u8; 4096];
-        let count = input.read(&mut chunk)?;
-        if count == 0 {
-            break;
-        }
-        for b in &chunk[0..count] {
-            if *b == b'\n' {
-                respond(rt, &mut tool, &line)?;
-                line.clear();
-            } else {
-                line.push(*b)?;
+        kinds = match kinds {
+            None => break,
+            Some((SettingKind::Colours, SummaryKind::Exact)) => {
+                Tool::<Colour, ExactList>::new(rt, &mut session).answer_lines(&mut input)?
             }
-        }
-    }
-    if !line.is_empty() {
-        respond(rt, &mut tool, &line)?;
+            Some((SettingKind::Colours, SummaryKind::Filter)) => {
+                Tool::<Colour, Bloom>::new(rt, &mut session).answer_lines(&mut input)?
+            }
+            Some((SettingKind::Links, SummaryKind::Exact)) => {
+                Tool::<Link, ExactList>::new(rt, &mut session).answer_lines(&mut input)?
+            }
+            Some((SettingKind::Links, SummaryKind::Filter)) => {
+                Tool::<Link, Bloom>::new(rt, &mut session).answer_lines(&mut input)?
+            }
+        };
     }
     Ok(())
 }

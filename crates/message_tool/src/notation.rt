@@ -2,51 +2,36 @@
 use settings::colour::Colour;
 use settings::kind::Setting;
 use settings::link::{Link, NodeNumber};
-use std::alloc::{AllocError, Global};
-use texts::{Fields, number, signed};
+use std::fmt::Display;
+use texts::{number, signed};
 
-pub(crate) trait Notation: Setting {
-    /// The setting that the next fields write.
-    fn parse(fields: &mut Fields) -> Option<Self>;
-
-    /// The text of a setting.
-    fn show(&self, heap: Global) -> Result<String, AllocError>;
+/// A setting that prints as the words that write it.
+pub(crate) trait Notation: Setting + Display {
+    /// The setting that the words write.
+    fn parse(words: &[&[u8]]) -> Option<Self>;
 }
 
 impl Notation for Colour {
-    fn parse(fields: &mut Fields) -> Option<Colour> {
-        let lift = signed(fields.next()?)?;
-        let gamma = signed(fields.next()?)?;
-        let gain = signed(fields.next()?)?;
-        Some(Colour { lift, gamma, gain })
-    }
-
-    fn show(&self, heap: Global) -> Result<String, AllocError> {
-        let lift = self.lift;
-        let gamma = self.gamma;
-        let gain = self.gain;
-        format!(in heap; "{lift} {gamma} {gain}")
+    fn parse(words: &[&[u8]]) -> Option<Colour> {
+        let [lift, gamma, gain] = words else {
+            return None;
+        };
+        Some(Colour {
+            lift: signed(lift)?,
+            gamma: signed(gamma)?,
+            gain: signed(gain)?,
+        })
     }
 }
 
 impl Notation for Link {
-    fn parse(fields: &mut Fields) -> Option<Link> {
-        let field = fields.next()?;
-        match field {
-            b"none" => Some(Link::NoNode),
-            digits => Some(Link::To(NodeNumber {
+    fn parse(words: &[&[u8]]) -> Option<Link> {
+        match words {
+            [b"none"] => Some(Link(None)),
+            [digits] => Some(Link(Some(NodeNumber {
                 number: number(digits)?,
-            })),
-        }
-    }
-
-    fn show(&self, heap: Global) -> Result<String, AllocError> {
-        match self {
-            Link::NoNode => String::from_str(heap, "none"),
-            Link::To(node) => {
-                let n = node.number;
-                format!(in heap; "{n}")
-            }
+            }))),
+            _ => None,
         }
     }
 }

@@ -1,32 +1,62 @@
-// Why a line was not answered.
-use anyhow::anyhow;
-use std::alloc::{AllocError, AllocFailed};
+// Why a line is not answered as it asks.
+use messages::compose::Misfit;
+use std::alloc::AllocError;
 use std::io;
+use thiserror::Error;
 
-#[derive(Drop)]
+#[derive(Debug, Drop, Error)]
 pub(crate) enum Stop {
-    /// What cannot be met, in words.
-    Cannot(&'static str),
-    /// The form that the command has.
+    #[error("a line has at most 4096 bytes")]
+    LongLine,
+    #[error("unknown command")]
+    UnknownCommand,
+    #[error("expected {0}")]
     Expected(&'static str),
-    /// Memory or output failed: the program ends.
-    Failed(anyhow::Error),
+    #[error("no session yet")]
+    NoSession,
+    #[error("no move yet")]
+    NoMove,
+    #[error("a session has 1 to 8 suites")]
+    SuiteCount,
+    #[error("a session has 1 to 64 nodes")]
+    NodeCount,
+    #[error("a node number stands twice")]
+    RepeatedNode,
+    #[error("a move reads at most 32 nodes")]
+    TooManyReads,
+    #[error("a move writes at most 16 nodes")]
+    TooManyWrites,
+    #[error("a summary is packed from at most 32 numbers")]
+    TooManyNumbers,
+    #[error("this summary has another width")]
+    SummaryWidth,
+    #[error(transparent)]
+    Misfit(#[from] Misfit),
+    /// There is no memory: the program ends.
+    #[error(transparent)]
+    Memory(#[from(alloc)] AllocError),
+    /// Output failed: the program ends.
+    #[error(transparent)]
+    Output(#[from] io::Error),
 }
 
-impl From<AllocError> for Stop {
-    fn from(e: AllocError) -> Stop {
-        Stop::Failed(e.into())
+impl Stop {
+    /// Prints why, unless memory or output failed.
+    pub(crate) fn show(self, rt: &HostRuntime) -> anyhow::Result<()> {
+        match self {
+            Stop::Memory(e) => Err(e.into()),
+            Stop::Output(e) => Err(e.into()),
+            stop => Ok(println!(rt; "error: {stop}")?),
+        }
     }
 }
 
-impl<T: Drop> From<AllocFailed<T>> for Stop {
-    fn from(_e: AllocFailed<T>) -> Stop {
-        Stop::Failed(anyhow!("no memory"))
-    }
-}
-
-impl From<io::Error> for Stop {
-    fn from(e: io::Error) -> Stop {
-        Stop::Failed(e.into())
-    }
+/// Why the words of a line were not read.
+#[derive(Debug, Drop, Error)]
+pub(crate) enum Misread {
+    /// They are of another form than the command has, which `Stop::Expected` prints.
+    #[error("the line has another form")]
+    Form,
+    #[error(transparent)]
+    Memory(#[from(alloc)] AllocError),
 }

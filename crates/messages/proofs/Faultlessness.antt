@@ -1,29 +1,20 @@
 -- What follows where no check of a message fails, and what reading answers.
-use Rattle.std.proofs.Common.{◌≡◌, ℕ, zero, suc, ◌+◌, ◌<◌, ◌≤◌, true, false, not, ◌&&◌, eqb, ltb, leb, List, [], ◌∷◌, ◌++◌, length, get_or, is_some, IfOk, Some, None, Ok, Err, Option, Result, sym, refl, ap, ◌∙◌, subst, arith}
+use Rattle.std.proofs.Common.{◌≡◌, ℕ, zero, suc, ◌+◌, ◌<◌, true, false, not, ◌&&◌, eqb, ltb, leb, List, [], ◌∷◌, ◌++◌, length, get_or, is_some, IfOk, Some, None, Option, Result, sym, refl, ap, ◌∙◌, subst, arith}
 use Rattle.number_bytes.specs.Bytes.{number}
-use Rattle.messages.proofs.Judging.{start_le, known_decides, given_decides, none_wrong, judged_first, judged_value, fault_of_frame, fault_of_writes, no_fault}
-use Rattle.messages.specs.Composing.{outside}
+use Rattle.limits.proofs.Ranges.{not_outside}
+use Rattle.messages.proofs.Judging.{start_le, known_decides, given_decides, none_wrong, judged_first}
+use Rattle.limits.specs.Limits.{outside}
 use Rattle.messages.specs.Layout.{write_start, message_length}
-use Rattle.messages.specs.Reading.{Check, checks, frame_checks, write_checks, first_fault, judged, header_in, read_answer, node_in, setting_in, known, given_before, write_in, ExactFault, Faultless}
+use Rattle.messages.specs.Reading.{checks, write_checks, first_fault, judged, header_in, read_answer, node_in, setting_in, known, given_before, write_in, ExactFault, Faultless}
 use Rattle.messages.specs.declared.fault.Fault.{Fault}
 use Rattle.messages.specs.declared.parts.Header.{Header}
 use Rattle.messages.specs.declared.parts.Write.{Write}
 use Rattle.std.proofs.lemmas.List.Edits.{length-between}
-use Rattle.std.proofs.lemmas.Bool.{eqb-true, eqb-false, ltb-false, not-false, or_parts, lt-ltb, le-leb, and_from, cond-true, both_ways}
+use Rattle.std.proofs.lemmas.Bool.{eqb-true, ltb-false, not-false, or_parts, lt-ltb, le-leb, and_from, cond-true, both_ways}
 use Rattle.settings.specs.Kinds.{SettingKind}
 use Rattle.std.specs.List.{between, range_with_len, flat_map, ContainsAt, AllByRecursion}
 use Rattle.std.specs.Option.{option_map}
 use Rattle.summaries.specs.Kinds.{SummaryKind}
-
-not_outside : (most n : ℕ) → outside most n ≡ false → (1 ≤ n) × (n ≤ most)
-not_outside most n h =
-    let parts = or_parts (eqb n 0) (ltb most n) h in
-    let some : n ≡ 0 → ⊥ = eqb-false n 0 parts.0 in
-    (by n some, ltb-false most n parts.1)
-  where
-    by : (k : ℕ) → (k ≡ 0 → ⊥) → 1 ≤ k
-    by zero other = absurd (other refl)
-    by (suc k) other = omega arith
 
 -- what holds of pieces joined holds of each piece
 all_left : {Y : Type 0} (P : Y → Type 0) (xs ys : List Y) → AllByRecursion P (xs ++ ys) → AllByRecursion P xs
@@ -43,7 +34,7 @@ all_piece P f a (suc n) (suc i) h low =
 
 -- an option with something in it
 there : {T : Type 0} (o : Option T) → is_some o ≡ true → (x : T) × (o ≡ Some x)
-there None h = let z : ◌≡◌ {A = ℕ} 0 1 = cc in absurd (omega arith)
+there None h = cc
 there (Some x) h = (x, refl)
 
 module _ {T : Type 0} (S : SummaryKind) (K : SettingKind T) (suites stamp : ℕ) (nodes m : List ℕ)
@@ -89,39 +80,14 @@ module _ {T : Type 0} (S : SummaryKind) (K : SettingKind T) (suites stamp : ℕ)
 
 -- ---- what reading answers
 
-module _ {T : Type 0} (S : SummaryKind) (K : SettingKind T) (suites stamp : ℕ) (nodes m : List ℕ) where
-  abbrev frame : List Check
-  frame = frame_checks S.wide K.wide suites stamp m
+module _ {T : Type 0} (S : SummaryKind) (K : SettingKind T) (suites stamp : ℕ) (nodes m : List ℕ) (r : Result Header Fault)
+    (is : r ≡ read_answer S K suites stamp nodes m) where
+  pub read_first : ExactFault (checks S K suites stamp nodes m) r
+  read_first = subst (ExactFault (checks S K suites stamp nodes m)) (sym is) (judged_first (checks S K suites stamp nodes m) (header_in m))
 
-  abbrev writes : ℕ → List Check
-  writes n = flat_map (write_checks S.wide K nodes m) (range_with_len 0 n)
-
-  -- what the other two clauses of reading say, of what reading answers
-  pub read_clauses : (r : Result Header Fault) → r ≡ read_answer S K suites stamp nodes m →
-      ExactFault (checks S K suites stamp nodes m) r × IfOk r (λ _. Faultless S K suites stamp nodes m)
-  read_clauses r is = (
-    subst (ExactFault (checks S K suites stamp nodes m)) (sym is) (judged_first (checks S K suites stamp nodes m) (header_in m)),
-    subst (λ a. IfOk a (λ _. Faultless S K suites stamp nodes m)) (sym is) (by (first_fault (checks S K suites stamp nodes m)) refl),
-  )
+  pub read_whole : IfOk r (λ _. Faultless S K suites stamp nodes m)
+  read_whole = subst (λ a. IfOk a (λ _. Faultless S K suites stamp nodes m)) (sym is) (by (first_fault (checks S K suites stamp nodes m)) refl)
     where
-      by : (o : Option Fault) → first_fault (checks S K suites stamp nodes m) ≡ o →
-          IfOk (judged o (header_in m)) (λ _. Faultless S K suites stamp nodes m)
+      by : (o : Option Fault) → first_fault (checks S K suites stamp nodes m) ≡ o → IfOk (judged o (header_in m)) (λ _. Faultless S K suites stamp nodes m)
       by None e = faultless S K suites stamp nodes m (none_wrong (checks S K suites stamp nodes m) e)
       by (Some f) e = tt
-
-  pub read_frame_fault : (f : Fault) → Err f ≡ judged (first_fault frame) (header_in m) → Err f ≡ read_answer S K suites stamp nodes m
-  read_frame_fault = fault_of_frame frame (writes (get_or m 5 0)) (header_in m)
-
-  -- the header that the frame gives counts the writes
-  module _ (h : Header) (fine : Ok h ≡ judged (first_fault frame) (header_in m)) where
-    counted : h.writes ≡ get_or m 5 0
-    counted = ap (λ k. k.writes) (judged_value (first_fault frame) (header_in m) h fine)
-
-    pub read_writes_fault : (f : Fault) → ◌≡◌ {A = Result (Unit {0}) Fault} (Err f) (judged (first_fault (writes h.writes)) tt) →
-        Err f ≡ read_answer S K suites stamp nodes m
-    read_writes_fault f e =
-        fault_of_writes frame (writes (get_or m 5 0)) (header_in m) h f fine (e ∙ ap (λ n. judged (first_fault (writes n)) tt) counted)
-
-    pub read_no_fault : ◌≡◌ {A = Result (Unit {0}) Fault} (Ok tt) (judged (first_fault (writes h.writes)) tt) →
-        Ok h ≡ read_answer S K suites stamp nodes m
-    read_no_fault e = no_fault frame (writes (get_or m 5 0)) (header_in m) h fine (e ∙ ap (λ n. judged (first_fault (writes n)) tt) counted)

@@ -1,12 +1,13 @@
 -- Reading a message that was composed returns all its fields: first the parts of the message, then its checks, none of which
 -- finds anything wrong.
-use Rattle.std.proofs.Common.{◌≡◌, ℕ, zero, suc, ◌+◌, ◌-◌, ◌*◌, ◌^◌, ◌<◌, ◌≤◌, Bool, true, false, not, ◌&&◌, eqb, ltb, leb, List, [], ◌∷◌, ◌++◌, map, length, get_or, take, drop, is_some, Some, None, Ok, sym, refl, ap, ◌∙◌, arith}
+use Rattle.std.proofs.Common.{◌≡◌, ℕ, zero, suc, ◌+◌, ◌-◌, ◌*◌, ◌^◌, ◌<◌, ◌≤◌, Bool, true, false, not, ◌&&◌, ltb, leb, List, [], ◌∷◌, ◌++◌, map, length, get_or, take, drop, is_some, Some, None, Ok, sym, refl, ap, ◌∙◌, arith}
 use Rattle.number_bytes.proofs.Numbers.{number_big_endian}
 use Rattle.number_bytes.proofs.Parts.{nth_joined, length_joined}
-use Rattle.number_bytes.specs.Bytes.{number}
+use Rattle.number_bytes.specs.Bytes.{number, big_endian}
+use Rattle.limits.proofs.Ranges.{not_outside_from}
 use Rattle.messages.proofs.Judging.{start_le, known_decides, given_decides, none_found}
-use Rattle.messages.proofs.Records.{length_record}
-use Rattle.messages.specs.Composing.{write_bytes, message, Composes, Numbered, outside}
+use Rattle.limits.specs.Limits.{outside}
+use Rattle.messages.specs.Composing.{write_bytes, message, Composes, Numbered}
 use Rattle.messages.specs.Layout.{write_start, message_length}
 use Rattle.messages.specs.Reading.{frame_checks, write_checks, checks, first_fault, judged, node_in, setting_in, known, given_before, header_in, summary_in, write_in, read_answer}
 use Rattle.messages.specs.Returning.{Fitting, Returned, header_with}
@@ -14,15 +15,11 @@ use Rattle.messages.specs.declared.parts.Origin.{Origin}
 use Rattle.messages.specs.declared.parts.Write.{Write}
 use Rattle.std.proofs.ByRecursion.{All-get_or, All-append}
 use Rattle.std.proofs.lemmas.List.{append-nil, length-append, length-map, take_at, take-take, drop_at, drop-drop, drop-take, get_or-map}
-use Rattle.std.proofs.lemmas.Bool.{eq-eqb, ne_eqb, le-ltb, lt-ltb, le-leb, and_from, or_from, cond-true}
+use Rattle.std.proofs.lemmas.Bool.{eq-eqb, le-ltb, lt-ltb, le-leb, and_from, or_from, cond-true}
 use Rattle.settings.specs.Kinds.{SettingKind}
 use Rattle.std.specs.List.{between, range_with_len, flat_map, ContainsAt, AllByRecursion}
 use Rattle.std.specs.Option.{option_map}
 use Rattle.summaries.specs.Kinds.{SummaryKind}
-
--- a number that is not outside
-inside : (most n : ℕ) → 1 ≤ n → n ≤ most → outside most n ≡ false
-inside most n low high = or_from (eqb n 0) (ltb most n) (ne_eqb n 0 (λ e. omega arith)) (le-ltb most n high)
 
 -- what holds of the pieces holds of them joined
 all_joined : {Y : Type 0} (P : Y → Type 0) (f : ℕ → List Y) (a n : ℕ) → ((i : ℕ) → a ≤ i → i < a + n → AllByRecursion P (f i)) → AllByRecursion P (flat_map f (range_with_len a n))
@@ -39,8 +36,11 @@ module _ {T : Type 0} (S : SummaryKind) (K : SettingKind T)
   abbrev records : List ℕ
   records = flat_map (write_bytes K) writes
 
-  length_records : length records ≡ length writes * (8 + K.wide)
-  length_records = length_joined (write_bytes K) (8 + K.wide) (length_record K wide) writes
+  length_record : (w : Write T) → length (write_bytes K w) ≡ 8 + K.wide
+  length_record w = length-append (big_endian 8 w.node) (K.form w.setting) ∙ ap (λ n. 8 + n) (wide w.setting)
+
+  pub length_records : length records ≡ length writes * (8 + K.wide)
+  length_records = length_joined (write_bytes K) (8 + K.wide) length_record writes
 
   -- ---- the parts
 
@@ -60,7 +60,7 @@ module _ {T : Type 0} (S : SummaryKind) (K : SettingKind T)
   record_part : (i : ℕ) (w : Write T) → i < length writes → take (8 + K.wide) (drop (write_start S.wide K.wide i) m) ≡ write_bytes K (get_or writes i w)
   record_part i w h =
       ap (take (8 + K.wide)) (drop_records (i * (8 + K.wide)) ∙ ap (drop (i * (8 + K.wide))) (sym (append-nil records)))
-      ∙ nth_joined (write_bytes K) (8 + K.wide) (length_record K wide) writes [] i w h
+      ∙ nth_joined (write_bytes K) (8 + K.wide) length_record writes [] i w h
 
   node_part : (i : ℕ) (w : Write T) → i < length writes → Numbered (get_or writes i w) → node_in S.wide K.wide m i ≡ (get_or writes i w).node
   node_part i w h small =
@@ -113,11 +113,11 @@ module _ {T : Type 0} (S : SummaryKind) (K : SettingKind T)
           (
             refl,
             (
-              inside suites from.suite fits.suite_there.0 fitting.suite_in,
+              not_outside_from suites from.suite fits.suite_there.0 fitting.suite_in,
               (
-                inside 4 from.slot fits.slot_there.0 fits.slot_there.1,
+                not_outside_from 4 from.slot fits.slot_there.0 fits.slot_there.1,
                 (
-                  or_from (outside 16 (length writes)) _ (inside 16 (length writes) fits.few_writes.0 fits.few_writes.1) (ap not (eq-eqb _ _ long)),
+                  or_from (outside 16 (length writes)) _ (not_outside_from 16 (length writes) fits.few_writes.0 fits.few_writes.1) (ap not (eq-eqb _ _ long)),
                   (le-ltb stamp (number (between 6 10 m)) (omega (arith, number_big_endian 4 from.snapshot snapshot_fits, fitting.snapshot_in)), tt),
                 ),
               ),

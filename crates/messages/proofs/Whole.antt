@@ -1,26 +1,16 @@
--- The whole message: how long it is, and how its parts come to stand in the buffer.
-use Rattle.std.proofs.Common.{◌≡◌, ℕ, ◌+◌, ◌*◌, ◌≤◌, List, ◌++◌, length, take, drop, sym, ap, ◌∙◌, ap₂, arith}
+-- How the parts of a message come to stand in the buffer.
+use Rattle.std.proofs.Common.{◌≡◌, ℕ, ◌+◌, ◌≤◌, List, ◌++◌, length, drop, sym, ◌∙◌, ap₂, arith}
 use borrow.Rule.Slice.PartMut.{put_mid}
-use Rattle.messages.specs.Layout.{message_length}
-use Rattle.std.proofs.lemmas.Nat.{mul-le}
-use Rattle.std.proofs.lemmas.List.{append_assoc, take_at, take-append-drop, length-append, length-drop}
-use Rattle.std.proofs.lemmas.Slice.{take-put_mid, drop-put_mid, drop-append-drop}
+use Rattle.number_bytes.proofs.Parts.{put_two}
+use Rattle.std.proofs.lemmas.List.{append_assoc, take_at, length-append, length-drop}
+use Rattle.std.proofs.lemmas.Slice.{drop-append-drop}
 
-pub longest : (W X w : ℕ) → W ≤ 512 → X ≤ 32 → w ≤ 16 → message_length W X w ≤ 1162
-longest W X w summary setting writes =
-    let most : w * (8 + X) ≤ 16 * 40 = mul-le w (8 + X) 16 40 writes (omega arith) in
-    omega arith
-
--- header, summary and records, one after the other, and behind them what the buffer held
-pub whole_buffer : (W k n : ℕ) (xs header packed records exit : List ℕ) → length header ≡ 10 → length packed ≡ W → k ≡ W → 10 + W ≤ n → n ≤ length xs →
-    take n exit ≡ take (10 + W) (put_mid 10 k (header ++ drop 10 xs) packed) ++ records → drop n exit ≡ drop n (put_mid 10 k (header ++ drop 10 xs) packed) →
-    exit ≡ (header ++ (packed ++ records)) ++ drop n xs
-whole_buffer W k n xs header packed records exit ten wide same after room front rest =
-    let first = header ++ drop 10 xs in
-    let long : length first ≡ length xs = length-append header (drop 10 xs) ∙ simp length-drop (omega arith) in
-    let before : take (10 + W) (put_mid 10 k first packed) ≡ header ++ packed =
-    take-put_mid 10 k first packed (10 + W) (omega arith) (omega arith) ∙ ap (λ ys. ys ++ packed) (take_at header (drop 10 xs) 10 ten) in
-    let behind : drop n (put_mid 10 k first packed) ≡ drop n xs =
-    drop-put_mid 10 k first packed n (omega arith) (omega arith) (wide ∙ sym same) ∙ drop-append-drop 10 xs header n (omega arith) ten in
-    sym (take-append-drop n exit)
-    ∙ ap₂ ◌++◌ (front ∙ ap (λ ys. ys ++ records) before ∙ append_assoc header packed records) (rest ∙ behind)
+-- header, summary and records written one after the other, and behind them what the buffer held
+pub whole_buffer : (j k : ℕ) (xs header packed records : List ℕ) → length header ≡ 10 → j ≡ length packed → k ≡ length records → 10 + (length packed + length records) ≤ length xs →
+    put_mid (10 + length packed) k (put_mid 10 j (header ++ drop 10 xs) packed) records ≡ (header ++ (packed ++ records)) ++ drop (10 + (length packed + length records)) xs
+whole_buffer j k xs header packed records ten wide long room =
+    let n = 10 + (length packed + length records) in
+    let size : length (header ++ drop 10 xs) ≡ length xs = length-append header (drop 10 xs) ∙ simp length-drop (omega arith) in
+    put_two 10 j k (header ++ drop 10 xs) packed records wide long (omega arith)
+    ∙ ap₂ (λ ys zs. ys ++ ((packed ++ records) ++ zs)) (take_at header (drop 10 xs) 10 ten) (drop-append-drop 10 xs header n (omega arith) ten)
+    ∙ sym (append_assoc header (packed ++ records) (drop n xs))

@@ -4,13 +4,13 @@
 --   header_bytes      the first ten bytes
 --   write_bytes       the bytes of one write
 --   message           the whole message
---   outside           whether a number is not 1 to a limit
 --   composed          what composing answers: the message's length, or the first thing that does not fit
+--   misfit_words      what a misfit prints as
 --   Composes          what holds where a message of n bytes is composed
 --   buffer_after      what the buffer holds then
-use Rattle.std.specs.Prelude.{◌≡◌, ℕ, ◌-◌, ◌≤◌, Bool, cond, ◌||◌, List, ◌∷◌, ◌++◌, length, drop, Ok, Err, Result, ◌==◌, nat_lt}
+use Rattle.std.specs.Prelude.{◌≡◌, ℕ, ◌-◌, ◌≤◌, if◌then◌else◌, List, ◌∷◌, ◌++◌, length, drop, Ok, Err, Result, nat_lt, codes}
 use Rattle.number_bytes.specs.Bytes.{Number, big_endian}
-use Rattle.limits.specs.Limits.{most_suites, slots_each, most_reads, most_writes, longest_message}
+use Rattle.limits.specs.Limits.{most_suites, slots_each, most_reads, most_writes, longest_message, outside}
 use Rattle.messages.specs.Layout.{version, message_length}
 use Rattle.messages.specs.declared.compose.Misfit.{Misfit}
 use Rattle.messages.specs.declared.compose.Misfit.TheVariants.{Suite, Slot, Reads, Writes, Buffer}
@@ -37,18 +37,23 @@ abbrev pub message : {T : Type 0} → SummaryKind → SettingKind T → Origin �
 message S K from reads writes =
     header_bytes (message_length S.wide K.wide (length writes)) from (length writes) ++ (S.packed reads ++ flat_map (write_bytes K) writes)
 
--- whether a number is not 1 to `most`
-abbrev pub outside : ℕ → ℕ → Bool
-outside most n = n == 0 || nat_lt most n
-
 -- what composing answers, for so many reads and writes and so many bytes of buffer
 abbrev pub composed : {T : Type 0} → SummaryKind → SettingKind T → Origin → ℕ → ℕ → ℕ → Result ℕ Misfit
 composed S K from reads writes room =
-    cond (outside most_suites from.suite) (Err Suite)
-    (cond (outside slots_each from.slot) (Err Slot)
-    (cond (nat_lt most_reads reads) (Err Reads)
-    (cond (outside most_writes writes) (Err Writes)
-    (cond (nat_lt room (message_length S.wide K.wide writes)) (Err Buffer) (Ok (message_length S.wide K.wide writes))))))
+    if outside most_suites from.suite then Err Suite
+    else if outside slots_each from.slot then Err Slot
+    else if nat_lt most_reads reads then Err Reads
+    else if outside most_writes writes then Err Writes
+    else if nat_lt room (message_length S.wide K.wide writes) then Err Buffer
+    else Ok (message_length S.wide K.wide writes)
+
+-- what a misfit prints as
+abbrev pub misfit_words : Misfit → List ℕ
+misfit_words Suite = codes "the suite is not 1 to 8"
+misfit_words Slot = codes "the slot is not 1 to 4"
+misfit_words Reads = codes "a move reads at most 32 nodes"
+misfit_words Writes = codes "a message has 1 to 16 writes"
+misfit_words Buffer = codes "the message is too long"
 
 -- what holds where a message of n bytes is composed
 pub record Composes {T : Type 0} (S : SummaryKind) (K : SettingKind T) (from : Origin) (reads writes room n : ℕ) : Type 0 where

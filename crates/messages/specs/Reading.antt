@@ -10,7 +10,6 @@
 --   count_check
 --   snapshot_check
 --   frame_checks        the checks of the frame, in their order
---   raw_header_in       the header's fields after the length, unless the length is wrong
 --   node_in             the node number of a write
 --   setting_in          the bytes of a write's setting
 --   known               whether a node is in the session
@@ -22,22 +21,21 @@
 --   first_fault         the fault of the first check that fails
 --   judged              what a reader answers by it
 --   header_in           what the header says
+--   raw_header_in       the version and what the header says, unless the length is wrong
 --   read_answer         what reading answers
 --   summary_in          the bytes of the summary
 --   write_in            a write, if it is there
 --   ExactFault          a fault is exactly that of the first failing check
 --   Faultless           what holds of a message without a fault
-use Rattle.std.specs.Prelude.{◌≡◌, ℕ, zero, suc, ◌+◌, ◌-◌, ◌<◌, ◌≤◌, Bool, true, false, cond, not, ◌&&◌, ◌||◌, List, [], ◌∷◌, ◌++◌, length, is_some, Some, None, Ok, Err, Option, Result, ◌==◌, ◌≢◌, nat_le, nat_lt, slice_index}
+use Rattle.std.specs.Prelude.{◌≡◌, ℕ, zero, suc, ◌+◌, ◌-◌, ◌<◌, ◌≤◌, Bool, true, false, if◌then◌else◌, not, ◌&&◌, ◌||◌, List, [], ◌∷◌, ◌++◌, length, is_some, Some, None, Ok, Err, Option, Result, ◌==◌, ◌≢◌, nat_le, nat_lt, slice_index}
 use Rattle.number_bytes.specs.Bytes.{number}
-use Rattle.limits.specs.Limits.{slots_each, most_writes, header_width, node_width}
+use Rattle.limits.specs.Limits.{slots_each, most_writes, header_width, node_width, outside}
 use Rattle.messages.specs.Causes.{fault}
-use Rattle.messages.specs.Composing.{outside}
 use Rattle.messages.specs.Layout.{version, write_start, setting_start, message_length}
 use Rattle.messages.specs.declared.fault.Cause.TheVariants.{Length, Version, Sender, WriteCount, Snapshot, Node, Setting}
 use Rattle.messages.specs.declared.fault.Fault.{Fault}
 use Rattle.messages.specs.declared.parts.Header.{Header}
 use Rattle.messages.specs.declared.parts.Write.{Write}
-use Rattle.messages.specs.declared.read.RawHeader.{RawHeader}
 use Rattle.settings.specs.Kinds.{SettingKind}
 use Rattle.std.specs.List.{between, range_with_len, flat_map, HoldsAt, ContainsAt, AllByRecursion}
 use Rattle.std.specs.Option.{option_map}
@@ -73,13 +71,6 @@ snapshot_check stamp m = (nat_lt stamp (number (between 6 10 m)), fault Snapshot
 abbrev pub frame_checks : ℕ → ℕ → ℕ → ℕ → List ℕ → List Check
 frame_checks W X suites stamp m =
     length_check m ∷ version_check m ∷ suite_check suites m ∷ slot_check m ∷ count_check W X m ∷ snapshot_check stamp m ∷ []
-
--- the header's fields after the length, unless the length is wrong
-abbrev pub raw_header_in : List ℕ → Option RawHeader
-raw_header_in m =
-    cond (wrong_length m)
-    None
-    (Some (record { version = slice_index m 2; suite = slice_index m 3; slot = slice_index m 4; writes = slice_index m 5; snapshot = number (between 6 10 m) }))
 
 -- the node number of write i
 abbrev pub node_in : ℕ → ℕ → List ℕ → ℕ → ℕ
@@ -119,7 +110,7 @@ checks S K suites stamp nodes m =
 -- the fault of the first check that fails
 abbrev pub first_fault : List Check → Option Fault
 first_fault [] = None
-first_fault (c ∷ cs) = cond c.0 (Some c.1) (first_fault cs)
+first_fault (c ∷ cs) = if c.0 then Some c.1 else first_fault cs
 
 -- what a reader answers by it: the fault or, without one, x
 abbrev pub judged : {A : Type 0} → Option Fault → A → Result A Fault
@@ -133,6 +124,10 @@ header_in m = record {
   writes = slice_index m 5;
 }
 
+-- the version and what the header says, unless the length is wrong
+abbrev pub raw_header_in : List ℕ → Option (ℕ × Header)
+raw_header_in m = if wrong_length m then None else Some (slice_index m 2, header_in m)
+
 -- what reading answers: the first fault or, without one, what the header says
 abbrev pub read_answer : {T : Type 0} → SummaryKind → SettingKind T → ℕ → ℕ → List ℕ → List ℕ → Result Header Fault
 read_answer S K suites stamp nodes m = judged (first_fault (checks S K suites stamp nodes m)) (header_in m)
@@ -144,9 +139,9 @@ summary_in W m = between header_width (header_width + W) m
 -- write i, if the header counts it, the message holds it whole, and its setting reads
 abbrev pub write_in : {T : Type 0} → SummaryKind → SettingKind T → List ℕ → ℕ → Option (Write T)
 write_in S K m i =
-    cond (nat_lt i (slice_index m 5) && nat_le (write_start S.wide K.wide (i + 1)) (length m))
-    (option_map (λ s. record { node = node_in S.wide K.wide m i; setting = s }) (K.reading (setting_in S.wide K.wide m i)))
-    None
+    if nat_lt i (slice_index m 5) && nat_le (write_start S.wide K.wide (i + 1)) (length m)
+    then option_map (λ s. record { node = node_in S.wide K.wide m i; setting = s }) (K.reading (setting_in S.wide K.wide m i))
+    else None
 
 -- without a fault no check fails, and a fault is that of a failing check before which none fails
 abbrev pub ExactFault : List Check → Result Header Fault → Type 0

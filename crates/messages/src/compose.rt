@@ -1,16 +1,16 @@
 // Composing a message: the header, the summary of the reads, the writes.
-ghost use Rattle.std.specs.Prelude.{◌≡◌, ◌+◌, ◌*◌, ◌≤◌, ◌++◌, length, take, drop, IfOk};
-ghost use Rattle.number_bytes.specs.Bytes.{Number, big_endian};
-ghost use Rattle.limits.specs.Limits.{longest_message};
-ghost use Rattle.messages.specs.Composing.{header_bytes, write_bytes, message, composed, Composes, buffer_after, Numbered};
+ghost use Rattle.std.specs.Prelude.{◌≡◌, ◌*◌, ◌≤◌, length, take, Some, IfOk};
+ghost use Rattle.messages.specs.Composing.{header_bytes, write_bytes, message, composed, misfit_words, Composes, buffer_after, Numbered};
 ghost use Rattle.messages.specs.Layout.{write_width};
 ghost use Rattle.messages.specs.Returning.{Returns};
 ghost use Rattle.std.specs.List.{flat_map, AllByRecursion};
 
 use crate::layout::{VERSION, write_start};
 use crate::parts::{Origin, Write};
-use limits::{HEADER, NODE_WIDTH, READS, SLOTS, SUITES, WRITES};
+use limits::{HEADER, NODE_WIDTH, READS, SLOTS, SUITES, WRITES, outside};
 use settings::kind::Setting;
+use std::error::Error;
+use std::fmt;
 use summaries::kind::Summary;
 
 /// Why a message was not composed, in the order of the checks; the buffer is then as it was.
@@ -28,6 +28,22 @@ pub enum Misfit {
     Buffer,
 }
 
+impl fmt::Display for Misfit {
+    ghost output = { λ misfit. Some (misfit_words misfit) };
+
+    fn fmt<W: fmt::Write>(&self, f: &mut fmt::Formatter<W>) -> fmt::Result {
+        f.write_str(match self {
+            Misfit::Suite => "the suite is not 1 to 8",
+            Misfit::Slot => "the slot is not 1 to 4",
+            Misfit::Reads => "a move reads at most 32 nodes",
+            Misfit::Writes => "a message has 1 to 16 writes",
+            Misfit::Buffer => "the message is too long",
+        })
+    }
+}
+
+impl Error for Misfit {}
+
 // The message's length, or what does not fit.
 fn measure<T: Setting, S: Summary>(
     from: Origin,
@@ -38,16 +54,16 @@ fn measure<T: Setting, S: Summary>(
     ensures answer { result ≡ composed S.Summary.kind T.Setting.kind from reads writes room }
     ensures facts { IfOk result (λ n. Composes S.Summary.kind T.Setting.kind from reads writes room n) }
 {
-    if from.suite == 0 || from.suite as usize > SUITES {
+    if outside(usize::from(from.suite), SUITES) {
         return Err(Misfit::Suite);
     }
-    if from.slot == 0 || from.slot as usize > SLOTS {
+    if outside(usize::from(from.slot), SLOTS) {
         return Err(Misfit::Slot);
     }
     if reads > READS {
         return Err(Misfit::Reads);
     }
-    if writes == 0 || writes > WRITES {
+    if outside(writes, WRITES) {
         return Err(Misfit::Writes);
     }
     let length = write_start::<T, S>(writes);
@@ -57,7 +73,8 @@ fn measure<T: Setting, S: Summary>(
     Ok(length)
 }
 
-fn header(whole: u16, from: Origin, writes: u8) -> [u8; 10]
+// The header of a message of `whole` bytes.
+fn header(whole: u16, from: Origin, writes: u8) -> [u8; HEADER]
     requires { 2 ≤ whole }
     ensures { result ≡ header_bytes whole from writes }
 {
@@ -68,40 +85,28 @@ fn header(whole: u16, from: Origin, writes: u8) -> [u8; 10]
     ]
 }
 
-// Writes a node number over eight bytes.
-fn put_node(node: u64, region: &mut [u8])
-    requires { length region.old ≡ 8 }
-    ensures number { Number node }
-    ensures region { region.new ≡ big_endian 8 node }
-{
-    region.copy_from_slice(&node.to_be_bytes());
-}
-
-// Writes one record over the bytes from `at` on.
-fn put_write<T: Setting>(write: &Write<T>, buffer: &mut [u8], at: usize)
-    requires { at + write_width T.Setting.kind.wide ≤ length buffer.old }
+// Writes a record over a region of its width.
+fn put_write<T: Setting>(write: &Write<T>, region: &mut [u8])
+    requires { length region.old ≡ write_width T.Setting.kind.wide }
     ensures number { Numbered write.now }
-    ensures buffer { buffer.new ≡ take at buffer.old ++ (write_bytes T.Setting.kind write.now ++ drop (at + write_width T.Setting.kind.wide) buffer.old) }
+    ensures region { region.new ≡ write_bytes T.Setting.kind write.now }
 {
-    let setting = at + NODE_WIDTH;
-    put_node(write.node, &mut buffer[at..setting]);
-    let _ = write
-        .setting
-        .write(&mut buffer[setting..setting + T::width_of()]);
+    let (node, setting) = region.split_at_mut(NODE_WIDTH);
+    node.copy_from_slice(&write.node.to_be_bytes());
+    let _ = write.setting.write(setting); // it has the width
 }
 
-// Writes the records one after the other from `at` on.
-fn put_writes<T: Setting>(writes: &[Write<T>], buffer: &mut [u8], at: usize)
-    requires { at + length writes.now * write_width T.Setting.kind.wide ≤ length buffer.old }
+// Writes the records one after the other over a region of their length.
+fn put_writes<T: Setting>(writes: &[Write<T>], region: &mut [u8])
+    requires { length region.old ≡ length writes.now * write_width T.Setting.kind.wide }
     ensures numbers { AllByRecursion Numbered writes.now }
-    ensures front { take (at + length writes.now * write_width T.Setting.kind.wide) buffer.new ≡ take at buffer.old ++ flat_map (write_bytes T.Setting.kind) writes.now }
-    ensures rest { drop (at + length writes.now * write_width T.Setting.kind.wide) buffer.new ≡ drop (at + length writes.now * write_width T.Setting.kind.wide) buffer.old }
+    ensures region { region.new ≡ flat_map (write_bytes T.Setting.kind) writes.now }
 {
-    let width = NODE_WIDTH + T::width_of();
-    let mut start = at;
-    for write in writes {
-        put_write(write, buffer, start);
-        start += width;
+    let width = NODE_WIDTH + T::WIDTH;
+    // by their numbers: of what is written over `chunks_exact_mut` a proof learns nothing
+    for (i, write) in writes.iter().enumerate() {
+        let start = i * width;
+        put_write(write, &mut region[start..start + width]);
     }
 }
 
@@ -118,9 +123,9 @@ pub fn compose<T: Setting, S: Summary>(
     ensures law { IfOk result (λ n. Returns S.Summary.kind T.Setting.kind from reads.now writes.now (take n buffer.new)) }
 {
     let length = measure::<T, S>(from, reads.len(), writes.len(), buffer.len())?;
-    let summary_end = HEADER + S::width_of();
-    buffer[0..HEADER].copy_from_slice(&header(length as u16, from, writes.len() as u8));
-    let _ = S::pack(reads, &mut buffer[HEADER..summary_end]);
-    put_writes(writes, buffer, summary_end);
+    let summary_end = HEADER + S::WIDTH;
+    buffer[..HEADER].copy_from_slice(&header(length as u16, from, writes.len() as u8));
+    let _ = S::pack(reads, &mut buffer[HEADER..summary_end]); // both were measured
+    put_writes(writes, &mut buffer[summary_end..length]);
     Ok(length)
 }

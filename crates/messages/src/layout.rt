@@ -14,5 +14,5 @@ pub(crate) fn write_start<T: Setting, S: Summary>(i: usize) -> usize
     requires { i ≤ 255 }
     ensures { result ≡ write_start S.Summary.kind.wide T.Setting.kind.wide i }
 {
-    HEADER + S::width_of() + i * (NODE_WIDTH + T::width_of())
+    HEADER + S::WIDTH + i * (NODE_WIDTH + T::WIDTH)
 }

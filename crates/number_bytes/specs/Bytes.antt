@@ -5,8 +5,9 @@
 --   byte_of         the byte of a number that has k bytes below it
 --   big_endian      the k low bytes of a number, the highest first
 --   number          the number that bytes write
+--   bytes_at        the k bytes from a place on, if they are there
 --   number_at       the number in the k bytes from a place on, if they are there
-use Rattle.std.specs.Prelude.{ℕ, zero, suc, ◌+◌, ◌/◌, ◌%◌, ◌^◌, ◌<◌, cond, List, [], ◌∷◌, length, Some, None, Option, nat_le}
+use Rattle.std.specs.Prelude.{ℕ, zero, suc, ◌+◌, ◌/◌, ◌%◌, ◌^◌, ◌<◌, if◌then◌else◌, List, [], ◌∷◌, length, Some, None, Option, nat_le}
 use Rattle.std.specs.List.{between}
 use Rattle.std.specs.Int.Digits as digits
 
@@ -32,6 +33,10 @@ big_endian (suc k) n = byte_of k n ∷ big_endian k n
 abbrev pub number : List ℕ → ℕ
 number bs = digits.number_from_digits 256 bs
 
+-- the k bytes from `at` on, if they are there
+abbrev pub bytes_at : ℕ → List ℕ → ℕ → Option (List ℕ)
+bytes_at k bs at = if nat_le (at + k) (length bs) then Some (between at (at + k) bs) else None
+
 -- the number in the k bytes from `at` on, if they are there
 abbrev pub number_at : ℕ → List ℕ → ℕ → Option ℕ
-number_at k bs at = cond (nat_le (at + k) (length bs)) (Some (number (between at (at + k) bs))) None
+number_at k bs at = if nat_le (at + k) (length bs) then Some (number (between at (at + k) bs)) else None

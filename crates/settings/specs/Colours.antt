@@ -1,12 +1,13 @@
 -- Colours as bytes: lift, gamma and gain, four bytes each, two's complement.
 --
 --   count_of          the signed number that 32 bits stand for
+--   count_fits        it is one of 32 bits
 --   colour_of         the colour of three numbers, each by its 32 bits
 --   starting_colour   the colour that a node starts with
 --   colour_form       the twelve bytes of a colour
 --   colour_reading    the colour that bytes stand for
 --   colours           the kind
-use Rattle.std.specs.Prelude.{◌≡◌, ℕ, suc, ◌-◌, ◌^◌, ◌<◌, Bool, true, false, cond, List, ◌++◌, length, ℤ, pos, negsuc, Some, None, Option, ◌==◌, nat_lt, refl}
+use Rattle.std.specs.Prelude.{◌≡◌, ℕ, suc, ◌-◌, ◌^◌, ◌<◌, Bool, true, false, if◌then◌else◌, List, ◌++◌, length, ℤ, pos, negsuc, Some, None, Option, ◌==◌, nat_lt, refl}
 use Rattle.std.proofs.Common.{arith}
 use Rattle.std.specs.Int.Signed.{mag}
 use Rattle.std.specs.Int.{w32}
@@ -51,9 +52,9 @@ colour_form c = big_endian 4 (of_z w32 c.lift) ++ (big_endian 4 (of_z w32 c.gamm
 -- the colour that bytes stand for: any twelve
 abbrev pub colour_reading : List ℕ → Option Colour
 colour_reading bs =
-    cond (length bs == 12)
-    (Some (colour_of (number (between 0 4 bs)) (number (between 4 8 bs)) (number (between 8 12 bs))))
-    None
+    if length bs == 12
+    then Some (colour_of (number (between 0 4 bs)) (number (between 4 8 bs)) (number (between 8 12 bs)))
+    else None
 
 -- colours as a kind of setting
 abbrev pub colours : SettingKind Colour

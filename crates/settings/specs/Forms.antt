@@ -2,13 +2,13 @@
 --
 --   written         the answer
 --   region_after    what the region holds then
-use Rattle.std.specs.Prelude.{ℕ, cond, List, length, Ok, Err, Result, ◌==◌}
+use Rattle.std.specs.Prelude.{ℕ, if◌then◌else◌, List, length, Ok, Err, Result, ◌==◌}
 use Rattle.settings.specs.declared.kind.WrongWidth.{WrongWidth}
 
 -- whether a form of `wide` bytes was written over the region
 abbrev pub written : ℕ → List ℕ → Result (Unit {0}) WrongWidth
-written wide region = cond (length region == wide) (Ok tt) (Err (record {}))
+written wide region = if length region == wide then Ok tt else Err (record {})
 
 -- what the region holds then
 abbrev pub region_after : ℕ → List ℕ → List ℕ → List ℕ
-region_after wide form region = cond (length region == wide) form region
+region_after wide form region = if length region == wide then form else region

@@ -5,3 +5,4 @@ pub mod Links
 pub mod ColourLaws
 pub mod Same
 pub mod LinkLaws
+pub mod Words

@@ -10,7 +10,11 @@ use number_bytes::u32_at;
 impl Setting for Colour {
     const WIDTH: usize = 12;
 
+    ghost WIDTH = { 12 };
+
     ghost kind = { colours };
+
+    ghost width_is_wide = { Prim.search rules };
 
     ghost some_width = { Prim.search rules };
 
@@ -24,10 +28,6 @@ impl Setting for Colour {
 
     ghost only_forms_read = { only_forms };
 
-    fn width_of() -> usize {
-        Self::WIDTH
-    }
-
     fn starting() -> Colour {
         Colour {
             lift: 0,
@@ -37,22 +37,18 @@ impl Setting for Colour {
     }
 
     fn write(&self, region: &mut [u8]) -> Result<(), WrongWidth> {
-        if region.len() != Self::WIDTH {
-            return Err(WrongWidth);
-        }
-        region[0..4].copy_from_slice(&self.lift.to_be_bytes());
-        region[4..8].copy_from_slice(&self.gamma.to_be_bytes());
-        region[8..12].copy_from_slice(&self.gain.to_be_bytes());
+        let form: &mut [u8; Colour::WIDTH] = region.as_mut_array().ok_or(WrongWidth)?;
+        form[0..4].copy_from_slice(&self.lift.to_be_bytes());
+        form[4..8].copy_from_slice(&self.gamma.to_be_bytes());
+        form[8..12].copy_from_slice(&self.gain.to_be_bytes());
         Ok(())
     }
 
     fn read(bytes: &[u8]) -> Option<Colour> {
-        if bytes.len() != Self::WIDTH {
-            return None;
-        }
-        let lift = u32_at(bytes, 0)?.cast_signed();
-        let gamma = u32_at(bytes, 4)?.cast_signed();
-        let gain = u32_at(bytes, 8)?.cast_signed();
+        let form: &[u8; Colour::WIDTH] = bytes.as_array()?;
+        let lift = u32_at(form, 0)?.cast_signed();
+        let gamma = u32_at(form, 4)?.cast_signed();
+        let gain = u32_at(form, 8)?.cast_signed();
         Some(Colour { lift, gamma, gain })
     }
 }

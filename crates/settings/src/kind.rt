@@ -15,12 +15,17 @@ pub trait Setting: Copy {
     /// Bytes of the form, 1 to 32.
     const WIDTH: usize;
 
-    // the meaning of the kind: width, starting setting, form and reading
+    // the constant, and the meaning of the kind: width, starting setting, form and reading
+    ghost WIDTH: { ℕ };
+
     ghost kind: { SettingKind Self };
 
     /// The constant, which is the width that the definitions have.
     fn width_of() -> usize
-        ensures answer { result ≡ kind.wide };
+        ensures answer { result ≡ kind.wide }
+    {
+        Self::WIDTH
+    }
 
     /// The setting of a node that no move has written.
     fn starting() -> Self
@@ -34,6 +39,8 @@ pub trait Setting: Copy {
     /// The setting whose form `bytes` is, if there is one.
     fn read(bytes: &[u8]) -> Option<Self>
         ensures answer { result ≡ kind.reading bytes.now };
+
+    ghost width_is_wide: { WIDTH ≡ kind.wide };
 
     ghost some_width: { 1 ≤ kind.wide };
 

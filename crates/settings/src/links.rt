@@ -10,7 +10,11 @@ use number_bytes::u64_at;
 impl Setting for Link {
     const WIDTH: usize = 9;
 
+    ghost WIDTH = { 9 };
+
     ghost kind = { links };
+
+    ghost width_is_wide = { Prim.search rules };
 
     ghost some_width = { Prim.search rules };
 
@@ -24,35 +28,27 @@ impl Setting for Link {
 
     ghost only_forms_read = { only_forms };
 
-    fn width_of() -> usize {
-        Self::WIDTH
-    }
-
     fn starting() -> Link {
-        Link::NoNode
+        Link(None)
     }
 
     fn write(&self, region: &mut [u8]) -> Result<(), WrongWidth> {
-        if region.len() != Self::WIDTH {
-            return Err(WrongWidth);
-        }
-        let (tag, number) = match self {
-            Link::NoNode => (0, 0),
-            Link::To(node) => (1, node.number),
+        let form: &mut [u8; Link::WIDTH] = region.as_mut_array().ok_or(WrongWidth)?;
+        let (tag, number) = match self.0 {
+            None => (0, 0),
+            Some(node) => (1, node.number),
         };
-        region[0] = tag;
-        region[1..9].copy_from_slice(&number.to_be_bytes());
+        form[0] = tag;
+        form[1..].copy_from_slice(&number.to_be_bytes());
         Ok(())
     }
 
     fn read(bytes: &[u8]) -> Option<Link> {
-        if bytes.len() != Self::WIDTH {
-            return None;
-        }
-        let number = u64_at(bytes, 1)?;
-        match bytes[0] {
-            0 if number == 0 => Some(Link::NoNode),
-            1 => Some(Link::To(NodeNumber { number })),
+        let form: &[u8; Link::WIDTH] = bytes.as_array()?;
+        let number = u64_at(form, 1)?;
+        match form[0] {
+            0 if number == 0 => Some(Link(None)),
+            1 => Some(Link(Some(NodeNumber { number }))),
             _ => None,
         }
     }

@@ -1,32 +1,17 @@
 -- One bit of a number, and one bit of a list of bytes: what setting one does to each.
-use Rattle.std.specs.Prelude.{◌≡◌, ℕ, suc, ◌+◌, ◌-◌, ◌/◌, ◌%◌, ◌^◌, ◌<◌, ◌||◌, ◌⊎◌, List, length, ◌==◌, ◌≢◌, bit_or, nat_eq, slice_index}
-use Rattle.std.proofs.Common.{inl, inr, sym, ap, ◌∙◌, pow-suc, arith}
-use Rattle.std.proofs.Math.Nat.{div-eq_of_lt, div_self, mul-mod_left}
-use Rattle.std.proofs.lemmas.Nat.{pow_pos, pow-add, pow_below, shl-shr, or_shr, or_mod}
+use Rattle.std.specs.Prelude.{◌≡◌, ℕ, ◌/◌, ◌%◌, ◌^◌, ◌<◌, ◌||◌, ◌⊎◌, List, length, ◌==◌, ◌≢◌, bit_or, nat_eq, slice_index}
+use Rattle.std.proofs.Common.{inl, inr, sym, ap, ◌∙◌, arith}
+use Rattle.std.proofs.lemmas.Nat.Bits.{bit_at_or, bit_at-lt, bit_at-pow_same, bit_at-pow_other}
+use Rattle.std.proofs.lemmas.Nat.{or_shr, or_mod}
 use Rattle.std.proofs.lemmas.List.{get_or-set_same, get_or-set_other}
-use Rattle.std.proofs.lemmas.Bool.{cases_eq, cases_order, eq-eqb, ne_eqb}
+use Rattle.std.proofs.lemmas.Bool.{cases_eq, eq-eqb, ne_eqb}
 use Rattle.summaries.specs.Blooms.{with_bit, has_bit}
-
--- bit s of 2^r, where s is not r
-other_power : (r s : ℕ) → (r ≢ s) → 2 ^ r / 2 ^ s % 2 ≡ 0
-other_power r s apart = by (cases_order r s)
-  where
-    by : (r ≡ s) ⊎ ((r < s) ⊎ (s < r)) → 2 ^ r / 2 ^ s % 2 ≡ 0
-    by (inl e) = absurd (apart e)
-    by (inr (inl low)) = ap (λ n. n % 2) (div-eq_of_lt (pow_below r s low))
-    by (inr (inr high)) =
-        let d = r - s - 1 in
-        let sum : r ≡ suc d + s = omega arith in
-        ap (λ n. 2 ^ n / 2 ^ s % 2) sum
-        ∙ ap (λ n. n / 2 ^ s % 2) (pow-add 2 (suc d) s)
-        ∙ ap (λ n. n % 2) (shl-shr (2 ^ suc d) s)
-        ∙ ap (λ n. n % 2) (pow-suc 2 d)
-        ∙ mul-mod_left (2 ^ d) 2
 
 -- bit s of x with bit r set
 bit_of_or : (x r s : ℕ) → bit_or x (2 ^ r) / 2 ^ s % 2 ≡ bit_or (x / 2 ^ s % 2) (2 ^ r / 2 ^ s % 2)
 bit_of_or x r s = ap (λ n. n % 2) (or_shr x (2 ^ r) s) ∙ or_mod (x / 2 ^ s) (2 ^ r / 2 ^ s) 1
 
+-- one bit, and with 1 or 0
 bit_below : (n : ℕ) → (n % 2 ≡ 0) ⊎ (n % 2 ≡ 1)
 bit_below n = by (cases_eq (n % 2) 0)
   where
@@ -48,12 +33,12 @@ or_zero n = by (bit_below n)
     by (inl e) = ap (λ m. bit_or m 0) e ∙ sym e
     by (inr e) = ap (λ m. bit_or m 0) e ∙ sym e
 
+-- x with bit r set: that bit, and another
 same_bit : (x r : ℕ) → bit_or x (2 ^ r) / 2 ^ r % 2 ≡ 1
-same_bit x r =
-    bit_of_or x r r ∙ ap (λ n. bit_or (x / 2 ^ r % 2) (n % 2)) (div_self (pow_pos r)) ∙ or_one (x / 2 ^ r)
+same_bit x r = omega (arith, bit_at_or x (2 ^ r) r, bit_at-pow_same r, bit_at-lt x r)
 
 other_bit : (x r s : ℕ) → (r ≢ s) → bit_or x (2 ^ r) / 2 ^ s % 2 ≡ x / 2 ^ s % 2
-other_bit x r s apart = bit_of_or x r s ∙ ap (bit_or (x / 2 ^ s % 2)) (other_power r s apart) ∙ or_zero (x / 2 ^ s)
+other_bit x r s apart = omega (arith, bit_at_or x (2 ^ r) s, bit_at-pow_other r s (λ e. apart (sym e)))
 
 -- setting bit p sets that bit and no other
 pub bit_with : (q p : ℕ) (bs : List ℕ) → p / 8 < length bs → has_bit q (with_bit p bs) ≡ (q == p || has_bit q bs)

@@ -1,13 +1,14 @@
 -- The Bloom summary: which bits packing sets, and the laws of a summary.
 use Rattle.std.specs.Prelude.{◌≡◌, ℕ, zero, suc, ◌+◌, ◌*◌, ◌/◌, ◌%◌, ◌^◌, ◌<◌, Bool, true, false, ◌||◌, List, [], ◌∷◌, length, replicate, Decides, fold, ◌==◌, nat_eq, slice_index, refl}
-use Rattle.std.proofs.Common.{sym, ap, ap₂, ◌∙◌, mod-lt, add-one, arith, lit<}
+use Rattle.std.proofs.Common.{sym, ap, ap₂, ◌∙◌, mod-lt, arith, lit<, add-one}
+use Rattle.std.proofs.Math.Bool.{or_assoc, or_comm, or-false}
 use Rattle.std.proofs.Math.Nat.{zero-div}
 use Rattle.number_bytes.specs.Bytes.{Byte}
 use Rattle.number_bytes.proofs.Numbers.{bytes_zeros}
 use Rattle.std.proofs.lemmas.Nat.{or_lt, pow_below}
 use Rattle.std.proofs.ByRecursion.{All-set}
 use Rattle.std.proofs.lemmas.List.{length-set}
-use Rattle.std.proofs.lemmas.Bool.{and_from, both_ways}
+use Rattle.std.proofs.lemmas.Bool.{both_ways, and_from}
 use Rattle.std.proofs.lemmas.Bool.Decides.{Decides-at, Decides-eqb, Decides-below_or, Decides-below_and, Decides-by_or}
 use Rattle.std.specs.List.{ContainsAt, AllByRecursion}
 use Rattle.summaries.specs.Bits.{bit_with}
@@ -36,20 +37,6 @@ abbrev hit_by : ℕ → List ℕ → Bool
 hit_by q [] = false
 hit_by q (n ∷ ns) = hits q n hashes || hit_by q ns
 
-or_assoc : (a b c : Bool) → (a || (b || c)) ≡ ((a || b) || c)
-or_assoc true b c = refl
-or_assoc false b c = refl
-
-or_turn : (a b c : Bool) → (a || (b || c)) ≡ ((b || a) || c)
-or_turn true true c = refl
-or_turn true false c = refl
-or_turn false true c = refl
-or_turn false false c = refl
-
-or_false : (a : Bool) → (a || false) ≡ a
-or_false true = refl
-or_false false = refl
-
 length_marked : (n i : ℕ) (bs : List ℕ) → length (marked n i bs) ≡ length bs
 length_marked n zero bs = refl
 length_marked n (suc i) bs = length-set (marked n i bs) _ _ ∙ length_marked n i bs
@@ -59,7 +46,7 @@ bits_marked q n zero bs l = refl
 bits_marked q n (suc i) bs l =
     bit_with q (position n i) (marked n i bs) (omega (arith, position_below n i, length_marked n i bs))
     ∙ ap (λ b. (q == position n i) || b) (bits_marked q n i bs l)
-    ∙ or_assoc (q == position n i) (hits q n i) (has_bit q bs)
+    ∙ sym (or_assoc (q == position n i) (hits q n i) (has_bit q bs))
 
 -- the bytes after some nodes more
 abbrev packing : List ℕ → List ℕ → List ℕ
@@ -74,7 +61,8 @@ bits_packing q [] bs l = refl
 bits_packing q (n ∷ ns) bs l =
     bits_packing q ns (marked n hashes bs) (length_marked n hashes bs ∙ l)
     ∙ ap (λ b. hit_by q ns || b) (bits_marked q n hashes bs l)
-    ∙ or_turn (hit_by q ns) (hits q n hashes) (has_bit q bs)
+    ∙ sym (or_assoc (hit_by q ns) (hits q n hashes) (has_bit q bs))
+    ∙ ap (λ b. b || has_bit q bs) (or_comm (hit_by q ns) (hits q n hashes))
 
 get_or_zeros : (k i : ℕ) → ◌≡◌ {A = ℕ} (slice_index (replicate k 0) i) 0
 get_or_zeros zero i = refl
@@ -92,7 +80,7 @@ hits_decides q n =
 pub packs_exactly : (ns : List ℕ) → SetsExactly ns (packed_bloom ns)
 packs_exactly ns q =
     Decides-at (has_bit q (packed_bloom ns)) (hit_by q ns)
-    (bits_packing q ns (replicate 64 0) refl ∙ ap (λ b. hit_by q ns || b) (no_bit q) ∙ or_false (hit_by q ns))
+    (bits_packing q ns (replicate 64 0) refl ∙ ap (λ b. hit_by q ns || b) (no_bit q) ∙ or-false (hit_by q ns))
     (Decides-by_or (λ n. hits q n hashes) (IsPosition q) (hit_by q) (hits_decides q) refl (λ _ _. refl) ns)
 
 -- ---- what a query finds

@@ -4,7 +4,7 @@
 --   pack_answer     what packing answers
 --   pack_region     what the region holds then
 --   query_answer    what a query answers
-use Rattle.std.specs.Prelude.{ℕ, Bool, cond, ◌&&◌, List, length, Ok, Err, Result, ◌==◌, nat_le}
+use Rattle.std.specs.Prelude.{ℕ, Bool, if◌then◌else◌, ◌&&◌, List, length, Ok, Err, Result, ◌==◌, nat_le}
 use Rattle.limits.specs.Limits.{most_reads}
 use Rattle.refusals.specs.declared.Refusal.{Refusal}
 use Rattle.refusals.specs.declared.Refusal.TheVariants.{SummarySize}
@@ -16,12 +16,12 @@ packs S ns region = nat_le (length ns) most_reads && length region == S.wide
 
 -- what packing answers
 abbrev pub pack_answer : SummaryKind → List ℕ → List ℕ → Result (Unit {0}) Refusal
-pack_answer S ns region = cond (packs S ns region) (Ok tt) (Err SummarySize)
+pack_answer S ns region = if packs S ns region then Ok tt else Err SummarySize
 
 -- what the region holds then: the packed bytes or, where packing is refused, what it held
 abbrev pub pack_region : SummaryKind → List ℕ → List ℕ → List ℕ
-pack_region S ns region = cond (packs S ns region) (S.packed ns) region
+pack_region S ns region = if packs S ns region then S.packed ns else region
 
 -- what a query answers
 abbrev pub query_answer : SummaryKind → List ℕ → ℕ → Result Bool Refusal
-query_answer S region n = cond (length region == S.wide) (Ok (S.names region n)) (Err SummarySize)
+query_answer S region n = if length region == S.wide then Ok (S.names region n) else Err SummarySize

@@ -1,6 +1,7 @@
 -- The exact list: what packing writes, what a query finds, and the laws of a summary.
-use Rattle.std.specs.Prelude.{◌≡◌, ℕ, suc, ◌+◌, ◌-◌, ◌*◌, ◌<◌, ◌≤◌, min, false, List, [], ◌∷◌, ◌++◌, length, take, drop, replicate, Decides, ◌==◌, ◌≢◌, nat_eq, slice_index, slice_set, refl}
-use Rattle.std.proofs.Common.{sym, ap, ◌∙◌, mul_comm, add-one, arith}
+use Rattle.std.proofs.lemmas.Bool.{ne_eqb, or_from}
+use Rattle.std.specs.Prelude.{◌≡◌, ℕ, suc, ◌+◌, ◌-◌, ◌*◌, ◌<◌, ◌≤◌, min, List, [], ◌∷◌, ◌++◌, length, take, drop, replicate, Decides, nat_eq, slice_index, slice_set, refl, ◌≢◌, false, ◌==◌}
+use Rattle.std.proofs.Common.{sym, ap, ◌∙◌, mul_comm, arith, add-one}
 use borrow.Rule.Slice.PartMut.{put_mid}
 use Rattle.number_bytes.specs.Bytes.{Byte, Number, big_endian, number}
 use Rattle.number_bytes.proofs.Numbers.{length_big_endian, bytes_big_endian, number_big_endian, bytes_zeros}
@@ -9,7 +10,6 @@ use Rattle.limits.specs.Limits.{most_reads}
 use Rattle.std.proofs.ByRecursion.{All-append, All-get_or}
 use Rattle.std.proofs.lemmas.List.{flat_map_more, take_more, take_more_set, length-append, length-replicate, get_or_default}
 use Rattle.std.proofs.lemmas.Slice.{take-put_mid}
-use Rattle.std.proofs.lemmas.Bool.{ne_eqb, or_from}
 use Rattle.std.proofs.lemmas.Bool.Decides.{Decides-eqb, Decides-below_or}
 use Rattle.std.specs.List.{AllByRecursion}
 use Rattle.summaries.specs.ExactLists.{numbers, packed_exact, number_in, among, NamesExactly}

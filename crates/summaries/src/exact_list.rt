@@ -1,6 +1,5 @@
 // The exact list: a summary that names exactly the nodes that were packed.
 ghost use Rattle.std.specs.Prelude.{◌≡◌, ◌+◌, ◌*◌, ◌<◌, ◌≤◌, ◌++◌, length, take, OnOk};
-ghost use Rattle.summaries.specs.ExactLists as spec;
 ghost use Rattle.summaries.specs.ExactLists.{exact_width, exact_list, numbers, NamesExactly};
 ghost use Rattle.limits.specs.Limits.{most_reads};
 ghost use Rattle.summaries.specs.Calls.{pack_answer, pack_region};
@@ -9,37 +8,34 @@ ghost use Rattle.std.proofs.Common.{rules};
 
 use crate::kind::Summary;
 use limits::{NODE_WIDTH, READS};
-use number_bytes::u64_at;
 use refusals::Refusal;
 
 /// A summary of a count byte, the numbers in order, and zeros.
 pub struct ExactList;
 
-// Writes the numbers from byte 1 on, eight bytes each.
-fn put_numbers(nodes: &[u64], region: &mut [u8])
-    requires { 1 + 8 * length nodes.now ≤ length region.old }
-    ensures { take (1 + 8 * length nodes.now) region.new ≡ take 1 region.old ++ numbers nodes.now }
-{
-    let mut at = 1;
-    for node in nodes {
-        region[at..at + 8].copy_from_slice(&node.to_be_bytes());
-        at += 8;
-    }
-}
+// The count, then the numbers, eight bytes each.
+type Bytes = [u8; ExactList::WIDTH];
 
-// The number at place i of the list.
-fn number_in(region: &[u8], i: usize) -> u64
-    requires i_lt_most_reads { i < most_reads }
-    requires region_len { length region.now ≡ exact_width }
-    ensures { result ≡ spec.number_in region.now i }
+// Writes the numbers from byte 1 on, eight bytes each.
+fn put_numbers(nodes: &[u64], bytes: &mut Bytes)
+    requires { length nodes.now ≤ most_reads }
+    ensures { take (1 + 8 * length nodes.now) bytes.new ≡ take 1 bytes.old ++ numbers nodes.now }
 {
-    u64_at(region, 1 + 8 * i).unwrap()
+    // by their places: of what is written over `chunks_exact_mut` a proof learns nothing
+    for (i, node) in nodes.iter().enumerate() {
+        let at = 1 + NODE_WIDTH * i;
+        bytes[at..at + NODE_WIDTH].copy_from_slice(&node.to_be_bytes());
+    }
 }
 
 impl Summary for ExactList {
     const WIDTH: usize = 1 + READS * NODE_WIDTH;
 
+    ghost WIDTH = { exact_width };
+
     ghost kind = { exact_list };
+
+    ghost width_is_wide = { Prim.search rules };
 
     ghost some_width = { Prim.search rules };
 
@@ -53,34 +49,29 @@ impl Summary for ExactList {
 
     ghost none_from_none = { Prim.search rules };
 
-    fn width_of() -> usize {
-        Self::WIDTH
-    }
-
     fn pack(nodes: &[u64], region: &mut [u8]) -> Result<(), Refusal>
         ensures answer { result ≡ pack_answer exact_list nodes.now region.old }
         ensures region { region.new ≡ pack_region exact_list nodes.now region.old }
         ensures exactly { OnOk result (NamesExactly nodes.now region.new) }
     {
-        if nodes.len() > READS || region.len() != Self::WIDTH {
+        if nodes.len() > READS {
             return Err(Refusal::SummarySize);
         }
-        region[0] = nodes.len() as u8;
-        put_numbers(nodes, region);
-        region[1 + 8 * nodes.len()..Self::WIDTH].fill(0);
+        let bytes: &mut Bytes = region.as_mut_array().ok_or(Refusal::SummarySize)?;
+        bytes[0] = nodes.len() as u8;
+        put_numbers(nodes, bytes);
+        bytes[1 + NODE_WIDTH * nodes.len()..].fill(0);
         Ok(())
     }
 
     fn query(region: &[u8], node: u64) -> Result<bool, Refusal> {
-        if region.len() != Self::WIDTH {
-            return Err(Refusal::SummarySize);
-        }
-        let count = usize::from(region[0]).min(READS);
-        for i in 0..count {
-            if number_in(region, i) == node {
-                return Ok(true);
-            }
-        }
-        Ok(false)
+        let bytes: &Bytes = region.as_array().ok_or(Refusal::SummarySize)?;
+        let (numbers, _) = bytes[1..].as_chunks();
+        Ok(
+            numbers
+                .iter()
+                .take(usize::from(bytes[0]))
+                .any(|number| u64::from_be_bytes(*number) == node),
+        )
     }
 }

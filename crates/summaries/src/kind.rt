@@ -13,12 +13,18 @@ pub trait Summary {
     /// Bytes of a summary, 1 to 512.
     const WIDTH: usize;
 
+    // the constant, as clauses name it
+    ghost WIDTH: { ℕ };
+
     // the meaning of the kind: width, names and packed
     ghost kind: { SummaryKind };
 
     /// The constant, which is the width that the definitions have.
     fn width_of() -> usize
-        ensures answer { result ≡ kind.wide };
+        ensures answer { result ≡ kind.wide }
+    {
+        Self::WIDTH
+    }
 
     /// Packs at most 32 numbers over a region of exactly the kind's width, whatever it held.
     fn pack(nodes: &[u64], region: &mut [u8]) -> Result<(), Refusal>
@@ -28,6 +34,8 @@ pub trait Summary {
     /// Whether the bytes name the node.
     fn query(region: &[u8], node: u64) -> Result<bool, Refusal>
         ensures answer { result ≡ query_answer kind region.now node };
+
+    ghost width_is_wide: { WIDTH ≡ kind.wide };
 
     ghost some_width: { 1 ≤ kind.wide };
 

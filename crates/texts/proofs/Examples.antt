@@ -1,5 +1,6 @@
 -- The definitions, computed on examples.
-use Rattle.std.proofs.Common.{◌≡◌, [], ◌∷◌, ◌++◌, replicate, pos, negsuc, Some, None, codes, refl}
+use Rattle.std.proofs.Common.{◌≡◌, true, false, [], ◌∷◌, ◌++◌, replicate, pos, negsuc, Some, None, codes, refl}
+use Rattle.texts.specs.Buffers.{gathered_of}
 use Rattle.texts.specs.Texts.{number_of, number_up_to, signed_of, hex_of, hex_within, written_over, fields_of}
 
 number_plain : number_of (codes "18446744073709551615") ≡ Some 18446744073709551615
@@ -76,3 +77,9 @@ fields_ends = refl
 
 fields_none : fields_of [] ≡ [] ∷ []
 fields_none = refl
+
+gathered_full : gathered_of 4 (codes "four") ≡ record { bytes = codes "four"; most = 4; over = false }
+gathered_full = refl
+
+gathered_over : gathered_of 4 (codes "fives") ≡ record { bytes = codes "five"; most = 4; over = true }
+gathered_over = refl

@@ -1,4 +1,4 @@
-pub mod HexTexts
+pub mod Lines
 pub mod Examples
 pub mod Pairs
 pub mod Reading

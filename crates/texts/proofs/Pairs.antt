@@ -1,30 +1,23 @@
--- Hexadecimal digits, tested one after another; then read in pairs, and written.
-use Rattle.std.proofs.Common.{◌≡◌, ℕ, zero, suc, ◌+◌, ◌*◌, ◌/◌, ◌%◌, ◌<◌, ◌≤◌, Bool, true, false, cond, ◌&&◌, eqb, leb, List, [], ◌∷◌, ◌++◌, length, get_or, drop, set, Some, None, Option, sym, refl, ap, ◌∙◌, ap₂, arith}
+-- Hexadecimal digits in pairs.
+use Rattle.std.proofs.Common.{◌≡◌, ℕ, zero, suc, ◌+◌, ◌*◌, ◌/◌, ◌%◌, ◌≤◌, ◌<◌, Bool, true, false, true≢false, cond, ◌&&◌, All, leb, eqb, List, [], ◌∷◌, ◌++◌, length, map, get_or, drop, set, Some, None, refl, sym, ap, ap₂, subst, ◌∙◌, arith}
 use lib.Seq.{paste}
-use Rattle.std.specs.Option.{option_map}
+use Rattle.std.specs.List.{list_all}
+use Rattle.std.specs.Simd.{first_chunks}
+use Rattle.std.proofs.lemmas.Bool.{le-leb, lt-leb, cond-true, cond-false}
+use Rattle.std.proofs.lemmas.List.{length-map, get_or-map}
 use Rattle.std.proofs.lemmas.List.Edits.{paste_more, paste_all}
+use Rattle.std.proofs.lemmas.List.Elements.{All-nil, All-cons}
 use Rattle.std.proofs.ByRecursion.{All-get_or, Decides-by_and}
-use Rattle.std.proofs.lemmas.List.{at_drop_more, at_drop_all}
-use Rattle.texts.specs.Texts.{every, is_hex, hex_value, pairs, hex_within, written_over}
+use Rattle.std.proofs.lemmas.Option.{cond_some}
+use Rattle.texts.specs.Texts.{is_hex, hex_value, pair_value, pairs, hex_of, hex_within, written_over}
 
-pub every_more : (test : ℕ → Bool) (xs : List ℕ) (i : ℕ) (t : Bool) → i < length xs → t ≡ test (get_or xs i 0) →
-    every test (drop i xs) ≡ (t && every test (drop (i + 1) xs))
-every_more test xs i t h e =
-    at_drop_more (every test) xs i 0 h ∙ ap (λ x. x && every test (drop (i + 1) xs)) (sym e)
+-- ---- one of them
 
-pub every_all : (test : ℕ → Bool) (xs : List ℕ) (i : ℕ) → length xs ≤ i → every test (drop i xs) ≡ true
-every_all test xs i h = at_drop_all (every test) xs i h
-
-pub every_get_or : (test : ℕ → Bool) (xs : List ℕ) (i : ℕ) → i < length xs → every test xs ≡ true →
+pub every_get_or : (test : ℕ → Bool) (xs : List ℕ) (i : ℕ) → i < length xs → list_all test xs ≡ true →
     test (get_or xs i 0) ≡ true
 every_get_or test xs i h e =
-    let all = (Decides-by_and test (λ x. test x ≡ true) (every test) (λ x. (λ p. p, λ p. p)) refl (λ _ _. refl) xs).0 e in
+    let all = (Decides-by_and test (λ x. test x ≡ true) (list_all test) (λ x. (λ p. p, λ p. p)) refl (λ _ _. refl) xs).0 e in
     All-get_or (λ x. test x ≡ true) xs i 0 h all
-
-pub length_pairs : (text : List ℕ) → length (pairs text) ≡ length text / 2
-length_pairs [] = refl
-length_pairs (a ∷ []) = refl
-length_pairs (a ∷ b ∷ bs) = let rest = length_pairs bs in omega arith
 
 pub get_or_pairs : (text : List ℕ) (i : ℕ) → 2 * i + 1 < length text →
     get_or (pairs text) i 0 ≡ hex_value (get_or text (2 * i) 0) * 16 + hex_value (get_or text (2 * i + 1) 0)
@@ -37,40 +30,68 @@ get_or_pairs (a ∷ b ∷ bs) (suc i) h =
     let second : suc (suc (2 * i + 1)) ≡ 2 * suc i + 1 = omega arith in
     get_or_pairs bs i (omega arith) ∙ ap₂ (λ x y. hex_value x * 16 + hex_value y) (ap at first) (ap at second)
 
--- ---- what is written over the front of d
+-- ---- all of them
 
-pub written_none : (o : Option (List ℕ)) (d : List ℕ) → None ≡ option_map length o → d ≡ written_over o d
-written_none None d e = refl
-written_none (Some bs) d e = let z : ◌≡◌ {A = ℕ} 0 1 = cc in absurd (omega arith)
+-- the bytes of the pairs are those of the text
+pub map_pair_value : (text : List ℕ) → map pair_value (first_chunks 2 (length text / 2) text) ≡ pairs text
+map_pair_value [] = refl
+map_pair_value (a ∷ []) = refl
+map_pair_value (a ∷ b ∷ bs) =
+    let more : length (a ∷ b ∷ bs) / 2 ≡ suc (length bs / 2) = omega arith in
+    ap (λ k. map pair_value (first_chunks 2 k (a ∷ b ∷ bs))) more ∙ ap (λ l. pair_value (a ∷ b ∷ []) ∷ l) (map_pair_value bs)
 
--- one more pair
-pub write_more : (text d out : List ℕ) (i a b : ℕ) → i < length d → 2 * i + 1 < length text →
-    a ≡ hex_value (get_or text (2 * i) 0) → b ≡ hex_value (get_or text (2 * i + 1) 0) →
-    out ≡ paste d 0 (pairs text) i → set out i (a * 16 + b) ≡ paste d 0 (pairs text) (i + 1)
-write_more text d out i a b room inside high low e =
-    let byte : a * 16 + b ≡ get_or (pairs text) i 0 = ap₂ (λ x y. x * 16 + y) high low ∙ sym (get_or_pairs text i inside) in
-    let place : i ≡ 0 + i = omega arith in
-    ap₂ (λ xs x. set xs i x) e byte
-    ∙ ap (λ j. set (paste d 0 (pairs text) i) j (get_or (pairs text) i 0)) place
-    ∙ paste_more d 0 (pairs text) i 0 (omega arith) (omega (arith, length_pairs text))
+-- whether a pair has digits only
+abbrev IsHexPair : List ℕ → Type 0
+IsHexPair pair = list_all is_hex pair ≡ true
 
--- the count that is given is that of the pairs, which are then what is read
-read_whole : (room n : ℕ) (text : List ℕ) → Some n ≡ option_map length (hex_within room text) →
-    (n ≡ length (pairs text)) × (hex_within room text ≡ Some (pairs text))
-read_whole room n text = go (leb (length (pairs text)) room) (eqb (length text % 2) 0 && every is_hex text) (pairs text)
+-- each does, if the text does
+pub pairs_are_hex : (text : List ℕ) → list_all is_hex text ≡ true → All IsHexPair (first_chunks 2 (length text / 2) text)
+pairs_are_hex [] all = All-nil IsHexPair
+pairs_are_hex (a ∷ []) all = All-nil IsHexPair
+pairs_are_hex (a ∷ b ∷ bs) all =
+    let more : length (a ∷ b ∷ bs) / 2 ≡ suc (length bs / 2) = omega arith in
+    let split = go (is_hex a) (is_hex b) (list_all is_hex bs) all in
+    subst (λ k. All IsHexPair (first_chunks 2 k (a ∷ b ∷ bs))) (sym more)
+    (All-cons IsHexPair (a ∷ b ∷ []) (first_chunks 2 (length bs / 2) bs) split.0 (pairs_are_hex bs split.1))
   where
-    go : (fits good : Bool) (bs : List ℕ) → Some n ≡ option_map length (cond fits (cond good (Some bs) None) None) →
-        (n ≡ length bs) × (cond fits (cond good (Some bs) None) None ≡ Some bs)
-    go true true bs e = (cc, refl)
-    go true false bs e = let z : ◌≡◌ {A = ℕ} 0 1 = cc in absurd (omega arith)
-    go false good bs e = let z : ◌≡◌ {A = ℕ} 0 1 = cc in absurd (omega arith)
+    go : (p q r : Bool) → (p && (q && r)) ≡ true → ((p && (q && true)) ≡ true) × (r ≡ true)
+    go true true r e = (refl, e)
+    go true false r e = absurd (true≢false (sym e))
+    go false q r e = absurd (true≢false (sym e))
 
-pub write_all : (text d out : List ℕ) (i n : ℕ) → i ≡ n → Some n ≡ option_map length (hex_within (length d) text) →
-    out ≡ paste d 0 (pairs text) i → out ≡ written_over (hex_within (length d) text) d
-write_all text d out i n at answer e =
-    let whole = read_whole (length d) n text answer in
-    let all : i ≡ length (pairs text) = at ∙ whole.0 in
-    let end : 0 + i ≡ length (pairs text) = omega arith in
-    e ∙ paste_all d 0 (pairs text) i all
-    ∙ ap (λ k. pairs text ++ drop k d) end
-    ∙ ap (λ o. written_over o d) (sym whole.1)
+-- what a text writes, if it is digits and none is left over
+pub hex_of_even : (text rest : List ℕ) → true ≡ eqb (length rest) 0 → length rest ≡ length text % 2 →
+    true ≡ list_all is_hex text → hex_of text ≡ Some (pairs text)
+hex_of_even text rest none left all =
+    ap₂ (λ p q. cond (p && q) (Some (pairs text)) None) (ap (λ k. eqb k 0) (sym left) ∙ sym none) (sym all)
+
+-- what a text writes that writes bs, if there is room for them
+hex_within_of : (room : ℕ) (text bs : List ℕ) → Some bs ≡ hex_of text →
+    hex_within room text ≡ cond (leb (length bs) room) (Some bs) None
+hex_within_of room text bs e =
+    ap₂ (λ xs o. cond (leb (length xs) room) o None) (cond_some _ _ _ (sym e)).1 (sym e)
+
+module _ (room : ℕ) (text : List ℕ) (ps : List (List ℕ)) (e : Some (map pair_value ps) ≡ hex_of text) where
+  pub hex_within_not : room < length ps → hex_within room text ≡ None
+  hex_within_not h =
+      hex_within_of room text _ e ∙ cond-false (leb (length (map pair_value ps)) room) _ _ (lt-leb _ _ (omega (arith, length-map ps pair_value)))
+
+  pub hex_within_some : length ps ≤ room → hex_within room text ≡ Some (map pair_value ps)
+  hex_within_some h =
+      hex_within_of room text _ e ∙ cond-true (leb (length (map pair_value ps)) room) _ _ (le-leb _ _ (omega (arith, length-map ps pair_value)))
+
+-- one more byte is written over the front of d
+pub write_more : (d out : List ℕ) (ps : List (List ℕ)) (i byte : ℕ) → i < length d → i < length ps →
+    byte ≡ pair_value (get_or ps i []) → out ≡ paste d 0 (map pair_value ps) i →
+    set out i byte ≡ paste d 0 (map pair_value ps) (i + 1)
+write_more d out ps i byte room inside is e =
+    let place : i ≡ 0 + i = omega arith in
+    ap₂ (λ xs x. set xs i x) e (is ∙ sym (get_or-map pair_value ps i [] 0 inside))
+    ∙ ap (λ j. set (paste d 0 (map pair_value ps) i) j (get_or (map pair_value ps) i 0)) place
+    ∙ paste_more d 0 (map pair_value ps) i 0 (omega arith) (omega (arith, length-map ps pair_value))
+
+pub write_all : (d out : List ℕ) (ps : List (List ℕ)) (i : ℕ) → i ≡ length ps →
+    out ≡ paste d 0 (map pair_value ps) i → out ≡ written_over (Some (map pair_value ps)) d
+write_all d out ps i at e =
+    let all : i ≡ length (map pair_value ps) = at ∙ sym (length-map ps pair_value) in
+    e ∙ paste_all d 0 (map pair_value ps) i all ∙ ap (λ k. map pair_value ps ++ drop k d) (omega arith)

@@ -1,14 +1,11 @@
--- Decimal digits, read one after another; then a minus before digits.
-use Rattle.std.proofs.Common.{◌≡◌, ℕ, ◌+◌, ◌-◌, ◌*◌, ◌^◌, ◌<◌, ◌≤◌, Bool, true, false, cond, ◌&&◌, ltb, leb, List, [], ◌∷◌, map, length, get_or, drop, pos, ◌-ℤ◌, neg_ℤ, Some, None, Option, sym, refl, ap, ◌∙◌, arith, lit<, w32, w64, to_z, of_z}
-use Rattle.std.specs.List.{between}
-use Rattle.std.specs.Option.{option_map}
+-- Decimal digits, read one after another.
+use Rattle.std.proofs.Common.{◌≡◌, ℕ, ◌+◌, ◌-◌, ◌*◌, ◌^◌, ◌<◌, ◌≤◌, Bool, true, false, cond, ◌&&◌, ltb, leb, List, [], ◌∷◌, map, length, get_or, drop, Some, None, Option, sym, refl, ap, ◌∙◌, arith, lit<}
+use Rattle.std.specs.List.{list_all}
 use Rattle.std.specs.Int.Digits as digits
 use Rattle.std.proofs.lemmas.Int.Digits.{number_after_ge}
-use Rattle.std.proofs.lemmas.List.{at_drop_more, at_drop_all, take_all}
-use Rattle.std.proofs.lemmas.Int.{ints}
-use Rattle.std.proofs.lemmas.Bool.{eq-eqb, le-leb, lt-leb, ltb-true, ltb-false, and_right, cond-true, cond-false}
-use Rattle.std.proofs.lemmas.Bool.Decides.{nat_tests}
-use Rattle.texts.specs.Texts.{every, is_digit, digit_after, number_up_to, number_of, signed_of}
+use Rattle.std.proofs.lemmas.List.{at_drop_more, at_drop_all}
+use Rattle.std.proofs.lemmas.Bool.{le-leb, lt-leb, ltb-true, ltb-false, and_right, cond-true, cond-false}
+use Rattle.texts.specs.Texts.{is_digit, digit_after, number_of}
 
 -- the answer, where the bytes so far gave the first argument and the second is left to read
 unfoldable pub read_on : Option ℕ → List ℕ → Option ℕ
@@ -41,38 +38,19 @@ fitting_large t n bs h =
     let grows = number_after_ge 10 n (map (λ b. b - 48) bs) (lit< tt) in
     cond-false _ _ _ (and_right t _ (lt-leb _ _ (omega arith)))
 
-read_on_is : (n : ℕ) (bs : List ℕ) → n < 2 ^ 64 → read_on (Some n) bs ≡ fitting (every is_digit bs) (whole n bs)
+read_on_is : (n : ℕ) (bs : List ℕ) → n < 2 ^ 64 → read_on (Some n) bs ≡ fitting (list_all is_digit bs) (whole n bs)
 unfolding read_on
 read_on_is n [] h = sym (cond-true _ _ _ (le-leb n (2 ^ 64 - 1) (omega arith)))
 read_on_is n (b ∷ bs) h = go (n * 10 + (b - 48)) (is_digit b) _ refl (read_on_is (n * 10 + (b - 48)) bs)
   where
     go : (m : ℕ) (is small : Bool) → ltb m (2 ^ 64) ≡ small →
-        (m < 2 ^ 64 → read_on (Some m) bs ≡ fitting (every is_digit bs) (whole m bs)) →
-        read_on (cond (is && small) (Some m) None) bs ≡ fitting (is && every is_digit bs) (whole m bs)
+        (m < 2 ^ 64 → read_on (Some m) bs ≡ fitting (list_all is_digit bs) (whole m bs)) →
+        read_on (cond (is && small) (Some m) None) bs ≡ fitting (is && list_all is_digit bs) (whole m bs)
     go m false small e rest = refl
     go m true true e rest = rest (ltb-true _ _ e)
-    go m true false e rest = sym (fitting_large (every is_digit bs) m bs (ltb-false _ _ e))
+    go m true false e rest = sym (fitting_large (list_all is_digit bs) m bs (ltb-false _ _ e))
 
 -- from the start on, it is the number of the whole
 pub read_on_number : (bs : List ℕ) → 0 < length bs → read_on (Some 0) bs ≡ number_of bs
 read_on_number [] h = absurd (omega arith)
 read_on_number (b ∷ bs) h = read_on_is 0 (b ∷ bs) (lit< tt)
-
--- ---- a minus before digits
-
-pub signed_minus : (bs : List ℕ) (o : Option ℕ) → 0 < length bs → get_or bs 0 0 ≡ 45 →
-    o ≡ number_up_to (2 ^ 31) (between 1 (length bs) bs) → option_map (λ n. neg_ℤ (pos n)) o ≡ signed_of bs
-signed_minus [] o h is e = absurd (omega arith)
-signed_minus (b ∷ bs) o h is e =
-    ap (option_map (λ n. neg_ℤ (pos n))) (e ∙ ap (number_up_to (2 ^ 31)) (take_all _ bs (omega arith)))
-    ∙ sym (cond-true _ _ _ (eq-eqb b 45 is))
-
-number_up_to_le : (most n : ℕ) (bs : List ℕ) → Some n ≡ number_up_to most bs → n ≤ most
-number_up_to_le most n bs e = grind (arith, nat_tests)
-
--- the cast to 64 bits, the minus and the cast to 32 bits lose nothing
-pub minus_value : (n : ℕ) (bs : List ℕ) → Some n ≡ number_up_to (2 ^ 31) bs →
-    to_z w32 (of_z w32 (to_z w64 (of_z w64 (pos 0 -ℤ to_z w64 n)))) ≡ neg_ℤ (pos n)
-minus_value n bs e =
-    let small = number_up_to_le (2 ^ 31) n bs e in
-    omega (arith, ints)

@@ -1,9 +1,9 @@
 -- A line, cut at its first space.
-use Rattle.std.proofs.Common.{◌≡◌, ℕ, suc, ◌+◌, ◌-◌, ◌<◌, ◌≤◌, Bool, true, false, cond, not, eqb, List, [], ◌∷◌, length, get_or, take, drop, is_some, Some, None, Option, sym, refl, ap, ◌∙◌, ap₂, arith, Bor}
-use Rattle.std.specs.List.{between, prefix_len}
+use Rattle.std.proofs.Common.{◌≡◌, ℕ, suc, ◌+◌, ◌<◌, ◌≤◌, Bool, true, false, cond, not, eqb, ltb, List, [], ◌∷◌, length, take, drop, is_some, Some, None, Option, sym, refl, ap, ◌∙◌, ap₂, arith, Bor}
+use Rattle.std.specs.List.{between, prefix_len, position}
 use Rattle.std.proofs.lemmas.List.{take_rest}
-use Rattle.std.proofs.lemmas.List.Sums.{prefix_len-drop_yes, prefix_len-drop_no}
-use Rattle.std.proofs.lemmas.Bool.{eq-eqb, ne_eqb, not_from_true, not_from_false}
+use Rattle.std.proofs.lemmas.Bool.{ltb-true, ltb-false}
+use Rattle.std.proofs.lemmas.Option.{cond_some, none-some}
 use Rattle.texts.specs.Texts.{is_empty, before_first, fields_of, fields_left}
 
 -- whether a byte is no space
@@ -44,27 +44,26 @@ fields_of_more (b ∷ bs) h = go (eqb b 32) h (fields_of_more bs)
         ap (before_first b) (rest (omega arith))
         ∙ ap₂ (λ i j. take i (b ∷ bs) ∷ fields_of (drop j (b ∷ bs))) one two
 
--- ---- a search for the first space, which has come to i
+-- ---- a line with a space, and one with none
 
--- no space stands before i
-abbrev pub ClearTo : List ℕ → ℕ → Type 0
-ClearTo line i = i + first_length (drop i line) ≡ first_length line
+-- whether a byte is a space
+abbrev pub is_space : ℕ → Bool
+is_space b = eqb b 32
 
-pub clear_more : (line : List ℕ) (i : ℕ) → i < length line → (get_or line i 0 ≡ 32 → ⊥) →
-    ClearTo line i → ClearTo line (i + 1)
-clear_more line i h other clear =
-    omega (arith, prefix_len-drop_yes not_space line i 0 h (not_from_false _ (ne_eqb _ 32 other)))
+pub cut_at : (line : List ℕ) (i : ℕ) → position is_space line ≡ Some i →
+    fields_of line ≡ take i line ∷ fields_of (between (i + 1) (length line) line)
+cut_at line i e =
+    let first = cond_some _ _ _ e in
+    fields_of_more line (ltb-true _ _ first.0) ∙ ap (λ j. cut_off j line) first.1
+    ∙ ap (λ rest. take i line ∷ fields_of rest) (sym (take_rest line (i + 1)))
 
-pub clear_all : (line : List ℕ) (i : ℕ) → length line ≤ i → ClearTo line i → fields_of line ≡ line ∷ []
-clear_all line i h clear = fields_of_last line (omega arith)
-
-pub cut_at : (line : List ℕ) (i : ℕ) → i < length line → get_or line i 0 ≡ 32 → ClearTo line i →
-    fields_of line ≡ take (i - 0) line ∷ fields_of (between (i + 1) (length line) line)
-cut_at line i h space clear =
-    let none = prefix_len-drop_no not_space line i 0 h (not_from_true _ (eq-eqb _ 32 space)) in
-    let here : first_length line ≡ i = omega arith in
-    fields_of_more line (omega arith) ∙ ap (λ j. cut_off j line) here
-    ∙ ap₂ (λ j rest. take j line ∷ fields_of rest) (omega arith) (sym (take_rest line (i + 1)))
+pub cut_nowhere : (line : List ℕ) → position is_space line ≡ None → fields_of line ≡ line ∷ []
+cut_nowhere line e = go (ltb (first_length line) (length line)) refl e
+  where
+    go : (t : Bool) → ltb (first_length line) (length line) ≡ t → cond t (Some (first_length line)) None ≡ None →
+        fields_of line ≡ line ∷ []
+    go true within none = absurd (none-some _ (sym none))
+    go false past none = fields_of_last line (ltb-false _ _ past)
 
 -- ---- whether a field is left
 

@@ -3,10 +3,13 @@
 --   Gathered           the bytes kept, the most that may be kept, and whether there were more
 --   gathered           what a line buffer has gathered
 --   nothing_gathered   nothing yet
+--   gathered_of        what is gathered of a line of these bytes
+--   Gathers            what a read of a line gathers, whatever its answer
 --   gathered_more      one byte more
 --   after_push         what is gathered after a push that was answered so
 --   whole_line         the line, unless there were more bytes than may be kept
-use Rattle.std.specs.Prelude.{ℕ, Bool, true, false, cond, List, [], ◌∷◌, ◌++◌, length, Some, None, Ok, Err, vec_items, Option, Result, nat_lt}
+use Rattle.std.specs.Prelude.{◌≡◌, ◌≢◌, ℕ, Bool, true, false, if◌then◌else◌, List, [], ◌∷◌, ◌++◌, length, take, All, Some, None, Ok, Err, OnErr, vec_items, Option, Result, nat_lt}
+use Rattle.std.specs.Io.KnownBytes.{Consumes}
 use Rattle.std.specs.declared.alloc.AllocError.{AllocError}
 use Rattle.texts.specs.declared.buffer.LineBuffer.{LineBuffer}
 
@@ -24,12 +27,22 @@ gathered l = record { bytes = vec_items l.bytes; most = l.most; over = l.over }
 abbrev pub nothing_gathered : ℕ → Gathered
 nothing_gathered most = record { bytes = []; most = most; over = false }
 
+-- what is gathered of a line of these bytes: the first of them, and whether they are more than may be kept
+abbrev pub gathered_of : ℕ → List ℕ → Gathered
+gathered_of most line = record { bytes = take most line; most = most; over = nat_lt most (length line) }
+
+-- what a read of a line gathers, whatever its answer: bytes that are no newline, and on an error just those that the
+-- input has lost, where its bytes are known
+abbrev pub Gathers : {X E : Type 0} → Result X E → Option (List ℕ) → Option (List ℕ) → ℕ → Gathered → Type 0
+Gathers answer known rest most g =
+    (line : List ℕ) × All (λ b. b ≢ 10) line × (g ≡ gathered_of most line) × OnErr answer (Consumes known rest line)
+
 -- one byte more: it is kept where there is room, and else there were more than may be kept
 abbrev pub gathered_more : Gathered → ℕ → Gathered
 gathered_more g b = record {
-  bytes = cond (nat_lt (length g.bytes) g.most) (g.bytes ++ b ∷ []) g.bytes;
+  bytes = if nat_lt (length g.bytes) g.most then g.bytes ++ b ∷ [] else g.bytes;
   most = g.most;
-  over = cond (nat_lt (length g.bytes) g.most) g.over true;
+  over = if nat_lt (length g.bytes) g.most then g.over else true;
 }
 
 -- what is gathered after a push that was answered so
@@ -39,4 +52,4 @@ after_push (Err _) g b = g
 
 -- the line, unless there were more bytes than may be kept
 abbrev pub whole_line : Gathered → Option (List ℕ)
-whole_line g = cond g.over None (Some g.bytes)
+whole_line g = if g.over then None else Some g.bytes

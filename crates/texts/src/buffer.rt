@@ -1,16 +1,20 @@
 // A line of text that is gathered byte by byte, of which no more than a fixed number of bytes are kept.
-ghost use Rattle.std.specs.Prelude.{◌≡◌, ◌≤◌, true, not, ◌&&◌, length, is_ok};
+ghost use Rattle.std.specs.Prelude.{◌≡◌, ◌≤◌, true, false, not, ◌&&◌, length, is_ok, IfOk, OnOk, IfSome};
 ghost use Rattle.std.specs.Option.{option_map};
-ghost use Rattle.texts.specs.Buffers.{gathered, nothing_gathered, after_push, whole_line};
+ghost use Rattle.std.specs.Io.BufRead.{first_piece, DropsThrough};
+ghost use Rattle.texts.specs.Buffers.{gathered, nothing_gathered, gathered_of, Gathers, after_push, whole_line};
 ghost use Rattle.texts.specs.Texts.{is_empty};
 
 use std::alloc::{AllocError, Global};
+use std::io;
+use std::io::BufRead;
 
 /// The bytes of a line so far: at most as many as it may have, and whether there were more.
 #[derive(Drop)]
 pub struct LineBuffer {
     bytes: Vec<u8>,
     most: usize,
+    // beside the bytes, and not in their place: those that were kept are promised where there were more, too
     over: bool,
 }
 
@@ -46,6 +50,36 @@ impl LineBuffer {
     {
         self.bytes.clear();
         self.over = false;
+    }
+
+    /// Reads the next line of `input` in place of what was gathered, and says whether there was one: `false` only at the
+    /// end of the input. The newline is taken from the input and not kept; the last line may have none. On an error,
+    /// what the input has lost is what was gathered.
+    pub fn read<R: BufRead>(&mut self, input: &mut R) -> io::Result<bool>
+        ensures gathers { Gathers result (R.remaining input.old) (R.remaining input.new)
+            (gathered self.old).most (gathered self.new) }
+        ensures line { OnOk result (IfSome (R.remaining input.old)
+            (λ xs. gathered self.new ≡ gathered_of (gathered self.old).most (first_piece 10 xs))) }
+        ensures rest { OnOk result (DropsThrough (R.remaining input.old) (R.remaining input.new) 10) }
+        ensures some { IfOk result (λ some. IfSome (R.remaining input.old) (λ xs. some ≡ not (is_empty xs))) }
+        ensures none { IfOk result (λ some. some ≡ false → gathered self.new ≡ nothing_gathered (gathered self.old).most) }
+    {
+        self.clear();
+        // the input ends it
+        for _ in 0..u64::MAX {
+            match input.fill_buf()?.first().copied() {
+                None => return Ok(!self.is_empty()),
+                Some(b'\n') => {
+                    input.consume(1);
+                    return Ok(true);
+                }
+                Some(byte) => {
+                    self.push(byte)?;
+                    input.consume(1);
+                }
+            }
+        }
+        Err(io::Error::from(io::ErrorKind::FileTooLarge))
     }
 
     /// Whether the line has no bytes.

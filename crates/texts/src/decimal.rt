@@ -2,12 +2,6 @@
 ghost use Rattle.std.specs.Prelude.{◌≡◌};
 ghost use Rattle.texts.specs.Texts.{digit_after, number_of, number_up_to, signed_of};
 
-// The largest `i32`.
-const LARGEST: u64 = i32::MAX as u64;
-
-// The smallest `i32` without its minus: one further from zero than the largest.
-const SIZE_OF_SMALLEST: u64 = LARGEST + 1;
-
 /// The number that `field` writes in decimal digits, leading zeros allowed, or `None` where it
 /// is empty, has any other byte or writes 2^64 or more.
 pub fn number(field: &[u8]) -> Option<u64>
@@ -27,11 +21,7 @@ pub fn number(field: &[u8]) -> Option<u64>
 pub fn number_up_to(field: &[u8], most: u64) -> Option<u64>
     ensures { result ≡ number_up_to most field.now }
 {
-    let value = number(field)?;
-    if value > most {
-        return None;
-    }
-    Some(value)
+    number(field).filter(|value| *value <= most)
 }
 
 /// The number that `field` writes in decimal digits, after a minus where it is negative, or
@@ -39,20 +29,16 @@ pub fn number_up_to(field: &[u8], most: u64) -> Option<u64>
 pub fn signed(field: &[u8]) -> Option<i32>
     ensures { result ≡ signed_of field.now }
 {
-    if let [b'-', digits @ ..] = field {
-        let size = number_up_to(digits, SIZE_OF_SMALLEST)?;
-        return Some(-(size as i64) as i32);
+    match field {
+        [b'-', digits @ ..] => i32::try_from(-i128::from(number(digits)?)).ok(),
+        _ => i32::try_from(number(field)?).ok(),
     }
-    let size = number_up_to(field, LARGEST)?;
-    Some(size as i32)
 }
 
 /// `value` with the digit `byte` behind it, or `None` where that is no digit or does not fit.
 fn with_digit(value: u64, byte: u8) -> Option<u64>
     ensures { result ≡ digit_after value byte }
 {
-    match byte {
-        b'0'..=b'9' => value.checked_mul(10)?.checked_add(u64::from(byte - b'0')),
-        _ => None,
-    }
+    let digit = char::from(byte).to_digit(10)?;
+    value.checked_mul(10)?.checked_add(u64::from(digit))
 }

@@ -1,7 +1,8 @@
 // Bytes written as text in hexadecimal digits, two for each byte.
-ghost use Rattle.std.specs.Prelude.{◌≡◌, ◌*◌, ◌<◌, ◌≤◌, true, length, IfSome, IfOk, string_bytes, OnSome};
+ghost use Rattle.std.specs.Prelude.{◌≡◌, ◌*◌, ◌+◌, ◌<◌, true, length, map, All, vec_items, IfSome, IfOk, string_bytes};
+ghost use Rattle.std.specs.List.{list_all};
 ghost use Rattle.std.specs.Option.{option_map};
-ghost use Rattle.texts.specs.Texts.{every, hex_digit, hex_text, hex_value, hex_within, is_hex, written_over};
+ghost use Rattle.texts.specs.Texts.{hex_digit, hex_of, hex_text, hex_value, hex_within, is_hex, pair_value, written_over};
 
 use std::alloc::{AllocError, Global};
 
@@ -13,22 +14,40 @@ pub fn hex(text: &[u8], out: &mut [u8]) -> Option<usize>
     ensures bytes { out.new
         ≡ written_over (hex_within (length out.old) text.now) out.old }
 {
-    let count = count_within(text, out.len())?;
-    for i in 0..count {
-        out[i] = hex_value(text[2 * i]) * 16 + hex_value(text[2 * i + 1]);
+    let pairs = digit_pairs(text)?;
+    if pairs.len() > out.len() {
+        return None;
     }
-    Some(count)
+    // by their places: of what is written over `iter_mut` a proof learns nothing
+    for (i, [high, low]) in pairs.iter().enumerate() {
+        out[i] = byte_of(*high, *low);
+    }
+    Some(pairs.len())
 }
 
-/// How many pairs of hexadecimal digits `text` is, or `None` where it is no such pairs or they
-/// are more than `room`.
-fn count_within(text: &[u8], room: usize) -> Option<usize>
-    ensures answer { result ≡ option_map length (hex_within room text.now) }
-    ensures fits { IfSome result (λ n. (2 * n ≡ length text.now) × (n ≤ room)) }
-    ensures digits { OnSome result (every is_hex text.now ≡ true) }
+/// Reads `text` as pairs of hexadecimal digits, in either case, and gives their bytes, or `None`
+/// where it is no such pairs, or that there is no memory for them.
+pub fn hex_bytes(heap: Global, text: &[u8]) -> Result<Option<Vec<u8>>, AllocError>
+    ensures { IfOk result (λ bytes. option_map vec_items bytes ≡ hex_of text.now) }
 {
-    if text.len() % 2 == 0 && text.len() / 2 <= room && all_hex(text) {
-        Some(text.len() / 2)
+    let Some(pairs) = digit_pairs(text) else {
+        return Ok(None);
+    };
+    let mut bytes = Vec::new(heap);
+    for [high, low] in pairs {
+        bytes.push(byte_of(*high, *low))?;
+    }
+    Ok(Some(bytes))
+}
+
+/// The pairs of hexadecimal digits that `text` is, or `None` where it is no such pairs.
+fn digit_pairs(text: &[u8]) -> Option<&[[u8; 2]]>
+    ensures bytes { option_map (λ pairs. map pair_value pairs.now) result ≡ hex_of text.now }
+    ensures digits { IfSome result (λ pairs. All (λ pair. list_all is_hex pair ≡ true) pairs.now) }
+{
+    let (pairs, rest) = text.as_chunks::<2>();
+    if rest.is_empty() && all_hex(text) {
+        Some(pairs)
     } else {
         None
     }
@@ -36,14 +55,18 @@ fn count_within(text: &[u8], room: usize) -> Option<usize>
 
 /// Whether every byte of `text` is a hexadecimal digit.
 fn all_hex(text: &[u8]) -> bool
-    ensures { result ≡ every is_hex text.now }
+    ensures { result ≡ list_all is_hex text.now }
 {
-    for byte in text {
-        if !byte.is_ascii_hexdigit() {
-            return false;
-        }
-    }
-    true
+    text.iter().all(u8::is_ascii_hexdigit)
+}
+
+/// The byte that two hexadecimal digits write, the higher first.
+fn byte_of(high: u8, low: u8) -> u8
+    requires high { is_hex high ≡ true }
+    requires low { is_hex low ≡ true }
+    ensures { result ≡ hex_value high * 16 + hex_value low }
+{
+    hex_value(high) * 16 + hex_value(low)
 }
 
 /// The value of a hexadecimal digit.

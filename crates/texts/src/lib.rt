@@ -5,8 +5,13 @@ mod buffer;
 mod decimal;
 mod hexadecimal;
 mod line;
+#[cfg(test)]
+mod tests;
 
 pub use buffer::LineBuffer;
 pub use decimal::{number, number_up_to, signed};
-pub use hexadecimal::{hex, hex_text};
+pub use hexadecimal::{hex, hex_bytes, hex_text};
 pub use line::Fields;
+
+/// Bytes of a line that the programs read: the longest message in hexadecimal, and room for the rest.
+pub const LONGEST_LINE: usize = 4096;

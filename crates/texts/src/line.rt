@@ -1,5 +1,6 @@
 // The fields of a line, one after another.
 ghost use Rattle.std.specs.Prelude.{◌≡◌, ◌∷◌};
+ghost use Rattle.std.specs.Iterator.{item_count};
 ghost use Rattle.texts.specs.Texts.{Gives, fields_left, fields_of, is_empty, left};
 
 /// The fields of a line that are still to be read. Fields are what stands between single
@@ -18,16 +19,6 @@ impl<'a> Fields<'a> {
         Fields { rest: Some(line) }
     }
 
-    /// The next field, or `None` where the last was given.
-    pub fn next(&mut self) -> Option<&'a [u8]>
-        ensures { Gives (left self.old) result (left self.new) }
-    {
-        let line = self.rest?;
-        let (field, rest) = cut(line);
-        self.rest = rest;
-        Some(field)
-    }
-
     /// Whether every field was given.
     pub fn end(&self) -> bool
         ensures { result ≡ is_empty (left self.now) }
@@ -36,14 +27,27 @@ impl<'a> Fields<'a> {
     }
 }
 
+impl<'a> Iterator for Fields<'a> {
+    type Item = &'a [u8];
+
+    ghost next_gives = { λ fields field rest. Gives (left fields) field (left rest) };
+
+    ghost remaining = { item_count left };
+
+    /// The next field, or `None` where the last was given.
+    fn next(&mut self) -> Option<&'a [u8]> {
+        let (field, rest) = cut(self.rest?);
+        self.rest = rest;
+        Some(field)
+    }
+}
+
 /// The first field of `line`, and what follows the space behind it, if there is one.
 fn cut(line: &[u8]) -> (&[u8], Option<&[u8]>)
     ensures { fields_of line.now ≡ result.0.now ∷ fields_left result.1 }
 {
-    for (i, byte) in line.iter().enumerate() {
-        if *byte == b' ' {
-            return (&line[0..i], Some(&line[i + 1..]));
-        }
+    match line.iter().position(|byte| *byte == b' ') {
+        Some(i) => (&line[..i], Some(&line[i + 1..])),
+        None => (line, None),
     }
-    (line, None)
 }

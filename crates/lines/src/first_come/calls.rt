@@ -4,6 +4,7 @@ ghost use Rattle.lines.specs.FirstComes.{contents, arrivals_of, handed};
 ghost use Rattle.lines.specs.Lines.{empty_line, Lawful, offer_answer, after_offer, settle_answer, Settles, SameIfRefused};
 ghost use Rattle.lines.specs.Orders.{queue_after_offer, arrivals_after_offer, FirstComeOrder};
 ghost use Rattle.lines.specs.Places.{places_in, rest};
+ghost use Rattle.lines.specs.StoreLaws.{lawful_line};
 ghost use Rattle.lines.specs.Stores.{empty, state_of};
 
 use super::FirstCome;
@@ -25,8 +26,11 @@ impl<'a> FirstCome<'a> {
     }
 }
 
+#[tactic(auto, using(crate::proofs::Meanings::lawful_store))]
 impl<'a> Line for FirstCome<'a> {
     ghost state = { λ l. state_of (contents l) };
+
+    ghost lawful = { λ l. lawful_line _ _ _ l.store.good };
 
     fn offer(&mut self, suite: usize, message: &[u8]) -> Result<(), Refusal>
         ensures answer { result ≡ offer_answer (state_of (contents self.old)) suite message.now }

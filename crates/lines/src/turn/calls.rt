@@ -4,7 +4,8 @@ ghost use Rattle.limits.specs.Limits.{most_suites};
 ghost use Rattle.lines.specs.Lines.{empty_line, Lawful, offer_answer, after_offer, settle_answer, Settles, SameIfRefused};
 ghost use Rattle.lines.specs.Orders.{suite_after, steps_to, turn_picks, ByTurn};
 ghost use Rattle.lines.specs.Places.{places_in, rest};
-ghost use Rattle.lines.specs.Stores.{view, line_of, GoodStore, nothing, state_of, FirstOfSuite};
+ghost use Rattle.lines.specs.StoreLaws.{lawful_line};
+ghost use Rattle.lines.specs.Stores.{nothing, state_of, FirstOfSuite};
 ghost use Rattle.lines.specs.Turns.{contents, handed, turn_of};
 
 use super::Turn;
@@ -34,30 +35,6 @@ fn next_suite(suite: usize) -> usize
     if suite < SUITES { suite + 1 } else { 1 }
 }
 
-// Which of the waiting messages is next: of the suites that have one, the first from the turn upwards and round is served,
-// and its first message goes.
-fn pick(store: &Store, turn: usize) -> usize
-    requires good_store { GoodStore store.now }
-    requires waiting_nonzero { 0 < store.now.waiting }
-    requires le_turn { 1 ≤ turn }
-    requires turn_le_most_suites { turn ≤ most_suites }
-    ensures bound { result < store.now.waiting }
-    ensures first { FirstOfSuite (view store.now).queue result }
-    ensures suite { (slice_index_or (view store.now).queue result nothing).suite ≡ turn_picks (line_of store.now).waiting turn }
-    ensures passed { (d : ℕ) → d < steps_to turn (slice_index_or (view store.now).queue result nothing).suite → (line_of store.now).waiting (suite_after turn d) ≡ [] }
-{
-    let mut best = 0;
-    let mut least = steps(turn, store.suite(0));
-    for k in 1..store.waiting() {
-        let distance = steps(turn, store.suite(k));
-        if distance < least {
-            best = k;
-            least = distance;
-        }
-    }
-    best
-}
-
 impl<'a> Turn<'a> {
     /// An empty line over these bytes, whatever they hold. The turn is with suite 1.
     pub fn new(bytes: &'a mut [u8]) -> Turn<'a>
@@ -71,10 +48,32 @@ impl<'a> Turn<'a> {
             turn: 1,
         }
     }
+
+    // Which of the waiting messages is next: of the suites that have one, the first from the turn upwards and round is
+    // served, and its first message goes.
+    fn pick(&self) -> usize
+        requires { 0 < self.now.store.waiting }
+        ensures bound { result < self.now.store.waiting }
+        ensures first { FirstOfSuite (contents self.now).queue result }
+        ensures suite { (slice_index_or (contents self.now).queue result nothing).suite ≡ turn_picks (state_of (contents self.now)).waiting (turn_of self.now) }
+        ensures passed { (d : ℕ) → d < steps_to (turn_of self.now) (slice_index_or (contents self.now).queue result nothing).suite → (state_of (contents self.now)).waiting (suite_after (turn_of self.now) d) ≡ [] }
+    {
+        (0..self.store.waiting())
+            .min_by_key(
+                |k: &usize| -> usize
+                    requires { k.now < self.now.store.waiting }
+                    ensures { result ≡ steps_to self.entry.now.turn (slice_index_or (contents self.entry.now).queue k.now nothing).suite }
+                { steps(self.turn, self.store.suite(*k)) },
+            )
+            .unwrap()
+    }
 }
 
+#[tactic(auto, using(crate::proofs::Meanings::lawful_store))]
 impl<'a> Line for Turn<'a> {
     ghost state = { λ l. state_of (contents l) };
+
+    ghost lawful = { λ l. lawful_line _ _ _ l.store.good };
 
     fn offer(&mut self, suite: usize, message: &[u8]) -> Result<(), Refusal>
         ensures answer { result ≡ offer_answer (state_of (contents self.old)) suite message.now }
@@ -98,7 +97,7 @@ impl<'a> Line for Turn<'a> {
         ensures beyond { rest (handed self.new).now ≡ rest (handed self.old).now }
     {
         self.store.check_settle()?;
-        let k = pick(&self.store, self.turn);
+        let k = self.pick();
         let served = self.store.suite(k);
         self.store.settle(k);
         self.turn = next_suite(served);

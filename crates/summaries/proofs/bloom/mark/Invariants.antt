@@ -3,5 +3,5 @@ use Rattle.summaries.specs.Blooms.{marked}
 use Rattle.summaries.proofs.bloom.mark.Given as goal
 
 -- the positions before this one are set
-abbrev pub invariant-loop-i : goal.invariant-loop-i
-invariant-loop-i l = l.region ≡ marked l.node l.i l.initial.region
+abbrev pub invariant-loop-p : goal.invariant-loop-p
+invariant-loop-p l = l.bits ≡ marked l.node l.p-index l.initial.bits

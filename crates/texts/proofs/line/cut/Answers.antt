@@ -1,12 +1,16 @@
-use Rattle.texts.proofs.Spaces.{clear_more, clear_all, cut_at}
+use Rattle.std.proofs.Common.{◌≡◌, sym, ◌∙◌, rules, tests}
+use Rattle.std.specs.List.{position}
+use Rattle.std.proofs.lemmas.Iterator.{YieldsList-from_slice}
+use Rattle.std.proofs.lemmas.Iterator.Search.{position_from_yields_List}
+use Rattle.texts.proofs.Spaces.{is_space, cut_at, cut_nowhere}
 use Rattle.texts.proofs.line.cut.Goals as goal
 
-pub loop-i-preserved : goal.loop-i-preserved
-loop-i-preserved c = clear_more c.args.line.now c.loop-i.i c.loop-i-test.true c.if-byte-eq32.false c.loop-i.invariant
+pub returns-in-Some : goal.returns-in-Some
+returns-in-Some c =
+    let found : c.position.result ≡ position is_space c.args.line.now = position_from_yields_List is_space _ _ c.position.result c.position.ensures.ran (YieldsList-from_slice _ c.iter.ensures.rest) (λ x b q k. search (rules, tests)) in
+    cut_at c.args.line.now c.in-Some.i (sym found ∙ c.in-Some.is)
 
-pub returns-then-byte-eq32 : goal.returns-then-byte-eq32
-returns-then-byte-eq32 c =
-    cut_at c.args.line.now c.loop-i.i c.loop-i-test.true c.if-byte-eq32.true c.loop-i.invariant
-
-pub returns : goal.returns
-returns c = clear_all c.args.line.now c.loop-i.i c.loop-i-test.false c.loop-i.invariant
+pub returns-in-None : goal.returns-in-None
+returns-in-None c =
+    let found : c.position.result ≡ position is_space c.args.line.now = position_from_yields_List is_space _ _ c.position.result c.position.ensures.ran (YieldsList-from_slice _ c.iter.ensures.rest) (λ x b q k. search (rules, tests)) in
+    cut_nowhere c.args.line.now (sym found ∙ c.in-None.is)

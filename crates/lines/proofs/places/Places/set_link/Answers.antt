@@ -1,21 +1,19 @@
-use Rattle.std.proofs.Common.{◌≡◌, ◌+◌, ◌*◌, length, refl, ap, ◌∙◌, arith}
-use Rattle.std.proofs.lemmas.List.Edits.{length-between}
-use Rattle.lines.proofs.Changes.{cell_written, changed_at}
-use Rattle.lines.specs.Places.{cell, link_in, offered_in}
+use Rattle.std.proofs.Common.{refl, ap, ◌∙◌}
+use Rattle.lines.proofs.Changes.{range_is, range_written, range_changed}
+use Rattle.lines.specs.Places.{link_in, offered_in}
 use Rattle.lines.proofs.places.Places.set_link.Goals as goal
 
 pub returns : goal.returns
-unfolding cell
 returns c =
     let bs = c.args.self.now.bytes.now in
-    let p = c.args.place in
-    let written = c.put_link.new.cell in
-    let whole : length written ≡ 1168 =
-    omega (arith, c.put_link.auto.cell, length-between bs (1168 * p) (1168 * p + 1168) (omega arith)) in
-    let here = cell_written bs written p c.requires.place_bound whole in
+    let there = c.requires in
+    let extent = c.extent-extent.ensures in
+    let long = c.put_link.auto.cell in
+    let before = range_is bs _ c.args.place _ _ there extent.start extent.end long in
+    let after = range_written bs _ c.args.place _ _ there extent.start extent.end long in
     record {
-      changed = changed_at bs written p c.requires.place_bound whole;
+      changed = range_changed bs _ c.args.place _ _ there extent.start extent.end long;
       memory = refl;
-      link = ap link_in here ∙ c.put_link.ensures.link;
-      message = ap offered_in here ∙ c.put_link.ensures.message;
+      link = ap link_in after ∙ c.put_link.ensures.link;
+      message = ap offered_in after ∙ c.put_link.ensures.message ∙ ap offered_in before;
     }

@@ -1,13 +1,7 @@
-use Rattle.std.proofs.Common.{sym, refl}
-use Rattle.lines.proofs.Meanings.{sound_store, agreed_count}
-use Rattle.lines.specs.Stores.{stored}
+use Rattle.std.proofs.Common.{sym}
+use Rattle.lines.proofs.Meanings.{sound_of}
+use Rattle.lines.specs.StoreLaws.{agreed_count}
 use Rattle.lines.proofs.store.Store.agreed.Goals as goal
 
-pub returns : goal.returns
-returns c =
-    let s = c.args.self.now in
-    let bs = s.places.bytes.now in
-    record {
-      value = refl;
-      line = sym (agreed_count (stored bs s.agreed s.waiting) s.agreed s.waiting (sound_store bs s.agreed s.waiting c.requires));
-    }
+pub returns-clause-line : goal.returns-clause-line
+returns-clause-line c = sym (agreed_count _ _ _ (sound_of c.args.self.now))

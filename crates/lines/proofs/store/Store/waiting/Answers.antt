@@ -1,15 +1,10 @@
-use Rattle.std.proofs.Common.{sym, refl}
-use Rattle.lines.proofs.Meanings.{sound_store, waiting_total}
-use Rattle.lines.specs.Stores.{stored}
+use Rattle.std.proofs.Common.{sym}
+use Rattle.lines.proofs.Meanings.{sound_of}
+use Rattle.lines.specs.StoreLaws.{waiting_total}
 use Rattle.lines.proofs.store.Store.waiting.Goals as goal
 
-pub returns : goal.returns
-returns c =
-    let s = c.args.self.now in
-    let bs = s.places.bytes.now in
-    let sound = sound_store bs s.agreed s.waiting c.requires in
-    record {
-      value = refl;
-      line = sym (waiting_total (stored bs s.agreed s.waiting) s.agreed s.waiting sound);
-      queue = sym sound.queue_long;
-    }
+pub returns-clause-line : goal.returns-clause-line
+returns-clause-line c = sym (waiting_total _ _ _ (sound_of c.args.self.now))
+
+pub returns-clause-queue : goal.returns-clause-queue
+returns-clause-queue c = sym (sound_of c.args.self.now).queue_long

@@ -1,10 +1,8 @@
-use Rattle.std.proofs.Common.{◌≡◌, true, length, replicate, sym, ap, ◌∙◌, subst, arith}
+use Rattle.std.proofs.Common.{◌≡◌, replicate, sym, ap, ◌∙◌, subst, rules}
 use Rattle.std.proofs.lemmas.List.{take_all}
 use Rattle.std.proofs.lemmas.List.Sums.{fold_more}
-use Rattle.std.proofs.lemmas.Bool.{le-leb, eq-eqb, and_from, cond-true}
 use Rattle.summaries.specs.BloomLaws.{packs_exactly}
-use Rattle.summaries.specs.Blooms.{bloom, marked, packed_bloom, SetsExactly}
-use Rattle.summaries.specs.Calls.{packs}
+use Rattle.summaries.specs.Blooms.{marked, packed_bloom, SetsExactly}
 use Rattle.summaries.proofs.bloom.BloomSummary.pack.Goals as goal
 
 pub loop-node-preserved : goal.loop-node-preserved
@@ -16,11 +14,6 @@ loop-node-preserved c =
 pub returns : goal.returns
 returns c =
     let ns = c.args.nodes.now in
-    let region = c.args.region.now in
-    let can : packs bloom ns region ≡ true = and_from _ _ (le-leb (length ns) 32 (omega arith)) (eq-eqb (length region) 64 (omega arith)) in
-    let whole = c.loop-node.invariant ∙ ap packed_bloom (take_all c.loop-node.node-index ns c.loop-node-test.false) in
-    record {
-      answer = sym (cond-true _ _ _ can);
-      region = whole ∙ sym (cond-true _ _ _ can);
-      exactly = subst (SetsExactly ns) (sym whole) (packs_exactly ns);
-    }
+    let whole : c.loop-node.bits ≡ packed_bloom ns =
+    c.loop-node.invariant ∙ ap packed_bloom (take_all c.loop-node.node-index ns c.loop-node-test.false) in
+    record { answer = search rules; region = search (rules, whole); exactly = subst (SetsExactly ns) (sym whole) (packs_exactly ns) }
