@@ -1,14 +1,12 @@
 // What a script line asks for.
-use crate::stop::{Misread, Stop};
 use std::alloc::Global;
-use std::num::TryFromIntError;
-use texts::{Fields, LineBuffer, hex_bytes, number_up_to};
+use texts::{FromWords, Misread, hex_bytes, integer};
 
 // The most bytes that a line is made over: a few more than 4,097 places have.
-const MOST_BYTES: u64 = 5_000_000;
+const MOST_BYTES: usize = 5_000_000;
 
 // The most bytes of a buffer.
-const MOST_ROOM: u64 = 2048;
+const MOST_ROOM: usize = 2048;
 
 /// In which order a line settles.
 #[derive(Clone, Copy)]
@@ -44,75 +42,48 @@ pub(crate) enum Command {
     Perform(Call),
 }
 
-/// The command of a line, if it is neither empty nor a comment.
-pub(crate) fn command_of(heap: Global, line: &LineBuffer) -> Result<Option<Command>, Stop> {
-    let Some(bytes) = line.whole() else {
-        return Err(Stop::LongLine);
-    };
-    if let [] | [b'#', ..] = bytes {
-        return Ok(None);
-    }
-    let words: Vec<&[u8]> = Fields::new(bytes).collect(heap)?;
-    let form = form_of(words.as_slice())?;
-    match parse(heap, words.as_slice()) {
-        Ok(command) => Ok(Some(command)),
-        Err(Misread::Form) => Err(Stop::Expected(form)),
-        Err(Misread::Memory(e)) => Err(Stop::Memory(e)),
-    }
-}
+/// The form of each command.
+pub(crate) const FORMS: &[&str] = &[
+    "first-come BYTES FILL",
+    "turn BYTES FILL",
+    "offer SUITE HEX",
+    "settle",
+    "count",
+    "fetch NUMBER ROOM",
+    "agreed",
+];
 
-// The form of the lines that begin with the first word.
-fn form_of(words: &[&[u8]]) -> Result<&'static str, Stop> {
-    match words {
-        [b"first-come", ..] => Ok("first-come BYTES FILL"),
-        [b"turn", ..] => Ok("turn BYTES FILL"),
-        [b"offer", ..] => Ok("offer SUITE HEX"),
-        [b"settle", ..] => Ok("settle"),
-        [b"count", ..] => Ok("count"),
-        [b"fetch", ..] => Ok("fetch NUMBER ROOM"),
-        [b"agreed", ..] => Ok("agreed"),
-        _ => Err(Stop::UnknownCommand),
-    }
-}
-
-fn parse(heap: Global, words: &[&[u8]]) -> Result<Command, Misread> {
-    match words {
-        [b"first-come", bytes, fill] => make_line(Order::Offering, bytes, fill),
-        [b"turn", bytes, fill] => make_line(Order::Turns, bytes, fill),
-        [b"offer", suite, text] => {
-            let suite = integer(suite)?;
-            let message = hex_bytes(heap, text)?.ok_or(Misread::Form)?;
-            Ok(Command::Perform(Call::Offer(suite, message)))
+impl FromWords for Command {
+    fn from_words(heap: Global, words: &[&[u8]]) -> Result<Command, Misread> {
+        match words {
+            [b"first-come", bytes, fill] => make_line(Order::Offering, bytes, fill),
+            [b"turn", bytes, fill] => make_line(Order::Turns, bytes, fill),
+            [b"offer", suite, text] => {
+                let suite = integer(suite)?;
+                let message = hex_bytes(heap, text)?.ok_or(Misread::Form)?;
+                Ok(Command::Perform(Call::Offer(suite, message)))
+            }
+            [b"settle"] => Ok(Command::Perform(Call::Settle)),
+            [b"count"] => Ok(Command::Perform(Call::Count)),
+            [b"fetch", number, room] => {
+                let number = integer(number)?;
+                let room = at_most(MOST_ROOM, integer(room)?)?;
+                Ok(Command::Perform(Call::Fetch(number, room)))
+            }
+            [b"agreed"] => Ok(Command::Perform(Call::Agreed)),
+            _ => Err(Misread::Form),
         }
-        [b"settle"] => Ok(Command::Perform(Call::Settle)),
-        [b"count"] => Ok(Command::Perform(Call::Count)),
-        [b"fetch", number, room] => {
-            let number = integer(number)?;
-            let room = integer_up_to(room, MOST_ROOM)?;
-            Ok(Command::Perform(Call::Fetch(number, room)))
-        }
-        [b"agreed"] => Ok(Command::Perform(Call::Agreed)),
-        _ => Err(Misread::Form),
     }
 }
 
 fn make_line(order: Order, bytes: &[u8], fill: &[u8]) -> Result<Command, Misread> {
     Ok(Command::Make(Making {
         order,
-        bytes: integer_up_to(bytes, MOST_BYTES)?,
+        bytes: at_most(MOST_BYTES, integer(bytes)?)?,
         fill: integer(fill)?,
     }))
 }
 
-fn integer<N: TryFrom<u64, Error = TryFromIntError>>(word: &[u8]) -> Result<N, Misread> {
-    integer_up_to(word, u64::MAX)
-}
-
-// The number that a word writes, which is at most a limit and fits its type.
-fn integer_up_to<N: TryFrom<u64, Error = TryFromIntError>>(
-    word: &[u8],
-    most: u64,
-) -> Result<N, Misread> {
-    let n = number_up_to(word, most).ok_or(Misread::Form)?;
-    N::try_from(n).map_err(|_| Misread::Form)
+fn at_most(most: usize, n: usize) -> Result<usize, Misread> {
+    if n <= most { Ok(n) } else { Err(Misread::Form) }
 }

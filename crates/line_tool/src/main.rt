@@ -4,14 +4,13 @@
 mod calls;
 mod command;
 mod script;
-mod stop;
 
 use script::Script;
-use stop::Stop;
+use std::io;
 
-fn run(rt: &HostRuntime) -> anyhow::Result<()> {
+fn run(rt: &HostRuntime) -> io::Result<()> {
     let mut script = Script::new(rt)?;
-    let mut next = script.run(|_| Stop::NoLine.show(rt))?;
+    let mut next = script.run(|_| println!(rt; "error: no line yet"))?;
     // the input ends it
     for _ in 0..u64::MAX {
         let Some(making) = next else {
@@ -23,5 +22,5 @@ fn run(rt: &HostRuntime) -> anyhow::Result<()> {
 }
 
 fn main(rt: HostRuntime) -> anyhow::Result<()> {
-    run(&rt)
+    Ok(run(&rt)?)
 }

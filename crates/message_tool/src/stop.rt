@@ -1,4 +1,4 @@
-// Why a line is not answered as it asks.
+// Why a command is not answered as it asks.
 use messages::compose::Misfit;
 use std::alloc::AllocError;
 use std::io;
@@ -6,12 +6,6 @@ use thiserror::Error;
 
 #[derive(Debug, Drop, Error)]
 pub(crate) enum Stop {
-    #[error("a line has at most 4096 bytes")]
-    LongLine,
-    #[error("unknown command")]
-    UnknownCommand,
-    #[error("expected {0}")]
-    Expected(&'static str),
     #[error("no session yet")]
     NoSession,
     #[error("no move yet")]
@@ -49,14 +43,4 @@ impl Stop {
             stop => Ok(println!(rt; "error: {stop}")?),
         }
     }
-}
-
-/// Why the words of a line were not read.
-#[derive(Debug, Drop, Error)]
-pub(crate) enum Misread {
-    /// They are of another form than the command has, which `Stop::Expected` prints.
-    #[error("the line has another form")]
-    Form,
-    #[error(transparent)]
-    Memory(#[from(alloc)] AllocError),
 }

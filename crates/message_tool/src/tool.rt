@@ -1,5 +1,5 @@
 // What the tool answers to its commands.
-use crate::command::{Command, SettingKind, SummaryKind, command_of};
+use crate::command::{Command, FORMS, SettingKind, SummaryKind};
 use crate::draft::Draft;
 use crate::notation::Notation;
 use crate::session::Session;
@@ -12,7 +12,7 @@ use std::io::BufRead;
 use std::marker::PhantomData;
 use summaries::kind::Summary;
 use summaries::murmur2::murmur2;
-use texts::{LONGEST_LINE, LineBuffer, hex_text};
+use texts::{Commands, NoCommand, hex_text};
 
 pub(crate) type Kinds = (SettingKind, SummaryKind);
 
@@ -40,26 +40,22 @@ impl<'a, T: Notation, S: Summary> Tool<'a, T, S> {
         &mut self,
         input: &mut R,
     ) -> anyhow::Result<Option<Kinds>> {
-        let mut line = LineBuffer::new(self.rt.alloc(), LONGEST_LINE);
-        // the input ends it
-        for _ in 0..u64::MAX {
-            if !line.read(input)? {
-                break;
-            }
-            match self.answer(&line) {
-                Ok(None) => {}
-                Ok(kinds) => return Ok(kinds),
-                Err(stop) => stop.show(self.rt)?,
+        for command in Commands::new(self.rt.alloc(), input, FORMS) {
+            match command? {
+                Ok(command) => match self.answer(command) {
+                    Ok(None) => {}
+                    Ok(kinds) => return Ok(kinds),
+                    Err(stop) => stop.show(self.rt)?,
+                },
+                Err(NoCommand::Blank) => {}
+                Err(reason) => println!(self.rt; "error: {reason}")?,
             }
         }
         Ok(None)
     }
 
-    // Answers a line, and gives the kinds that it chooses, if it chooses any.
-    fn answer(&mut self, line: &LineBuffer) -> Result<Option<Kinds>, Stop> {
-        let Some(command) = command_of(self.rt.alloc(), line)? else {
-            return Ok(None);
-        };
+    // Answers a command, and gives the kinds that it chooses, if it chooses any.
+    fn answer(&mut self, command: Command<T>) -> Result<Option<Kinds>, Stop> {
         match command {
             Command::Kind(setting, summary) => {
                 self.say_ok()?;

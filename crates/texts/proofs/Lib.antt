@@ -3,3 +3,4 @@ pub mod Examples
 pub mod Pairs
 pub mod Reading
 pub mod Spaces
+pub mod Words

@@ -13,7 +13,7 @@ use std::io::BufRead;
 #[derive(Drop)]
 pub struct LineBuffer {
     bytes: Vec<u8>,
-    most: usize,
+    pub(crate) most: usize,
     // beside the bytes, and not in their place: those that were kept are promised where there were more, too
     over: bool,
 }

@@ -10,11 +10,9 @@ pub fn number(field: &[u8]) -> Option<u64>
     if field.is_empty() {
         return None;
     }
-    let mut value: u64 = 0;
-    for byte in field {
-        value = with_digit(value, *byte)?;
-    }
-    Some(value)
+    field
+        .iter()
+        .try_fold(0, |value, byte| with_digit(value, *byte))
 }
 
 /// The number that `field` writes, as `number` reads it, or `None` where it is above `most`.

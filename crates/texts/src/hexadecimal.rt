@@ -18,7 +18,7 @@ pub fn hex(text: &[u8], out: &mut [u8]) -> Option<usize>
     if pairs.len() > out.len() {
         return None;
     }
-    // by their places: of what is written over `iter_mut` a proof learns nothing
+    // by their places: of what is written through `iter_mut` and an adapter a proof learns nothing
     for (i, [high, low]) in pairs.iter().enumerate() {
         out[i] = byte_of(*high, *low);
     }
@@ -66,21 +66,8 @@ fn byte_of(high: u8, low: u8) -> u8
     requires low { is_hex low ≡ true }
     ensures { result ≡ hex_value high * 16 + hex_value low }
 {
-    hex_value(high) * 16 + hex_value(low)
-}
-
-/// The value of a hexadecimal digit.
-fn hex_value(digit: u8) -> u8
-    requires { is_hex digit ≡ true }
-    ensures value { result ≡ hex_value digit }
-    ensures bound { result < 16 }
-{
-    match digit {
-        b'0'..=b'9' => digit - b'0',
-        b'A'..=b'F' => digit - b'A' + 10,
-        b'a'..=b'f' => digit - b'a' + 10,
-        _ => unreachable(),
-    }
+    let value = |digit| char::from(digit).to_digit(16).unwrap();
+    (value(high) * 16 + value(low)) as u8
 }
 
 /// `bytes` written in hexadecimal digits, two for each, or that there is no memory for them.
@@ -101,9 +88,5 @@ fn hex_digit(value: u8) -> char
     ensures digit { result ≡ hex_digit value }
     ensures ascii { result < 128 }
 {
-    if value < 10 {
-        char::from(b'0' + value)
-    } else {
-        char::from(b'a' + value - 10)
-    }
+    char::from_digit(u32::from(value), 16).unwrap()
 }

@@ -2,6 +2,7 @@
 #![tactic(auto)]
 
 mod buffer;
+mod command;
 mod decimal;
 mod hexadecimal;
 mod line;
@@ -9,6 +10,7 @@ mod line;
 mod tests;
 
 pub use buffer::LineBuffer;
+pub use command::{Commands, FromWords, Misread, NoCommand, integer};
 pub use decimal::{number, number_up_to, signed};
 pub use hexadecimal::{hex, hex_bytes, hex_text};
 pub use line::Fields;

@@ -1,6 +1,7 @@
 // The fields of a line, one after another.
 ghost use Rattle.std.specs.Prelude.{◌≡◌, ◌∷◌};
 ghost use Rattle.std.specs.Iterator.{item_count};
+ghost use Rattle.texts.specs.Commands.{first_word};
 ghost use Rattle.texts.specs.Texts.{Gives, fields_left, fields_of, is_empty, left};
 
 /// The fields of a line that are still to be read. Fields are what stands between single
@@ -50,4 +51,11 @@ fn cut(line: &[u8]) -> (&[u8], Option<&[u8]>)
         Some(i) => (&line[..i], Some(&line[i + 1..])),
         None => (line, None),
     }
+}
+
+/// What stands before the first space of `line`.
+pub(crate) fn first_word(line: &[u8]) -> &[u8]
+    ensures { result.now ≡ first_word line.now }
+{
+    cut(line).0
 }

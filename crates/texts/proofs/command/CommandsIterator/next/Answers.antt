@@ -1,0 +1,12 @@
+use Rattle.std.proofs.Common.{refl, ap, rules}
+use Rattle.texts.specs.Buffers.{gathered}
+use Rattle.texts.proofs.Words.{known_line}
+use Rattle.texts.proofs.command.CommandsIterator.next.Goals as goal
+
+pub returns-in-Ok-clause-steps : goal.returns-in-Ok-clause-steps
+returns-in-Ok-clause-steps g c =
+    let read = c.in-Ok-true.ensures in
+    let line = read.gathers in
+    let known = known_line _ _ _ _ c.in-Ok-true.field-0-test read.some read.line in
+    let most = ap (λ gathered. gathered.most) line.2 in
+    (refl, most, (search rules, (gathered c.read.new.self, ((line.0, line.1, line.2), known), c.in-Ok.ensures), read.rest))
