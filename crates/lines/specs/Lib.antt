@@ -1,5 +1,6 @@
 pub mod FirstComes
 pub mod Lines
+pub mod Offers
 pub mod Orders
 pub mod Places
 pub mod StoreLaws

@@ -15,7 +15,7 @@ contents l = view l.store
 
 -- the suite whose turn it is
 abbrev pub turn_of : Turn → ℕ
-turn_of l = l.turn
+turn_of l = l.turn.number
 
 -- the handed bytes, as the line holds them
 abbrev pub handed : Turn → MutBor (List ℕ)

@@ -1,8 +1,10 @@
 // The bytes of one place: the message's length (2 bytes), its suite, a spare byte, a link (2 bytes), the message.
 ghost use Rattle.std.specs.Prelude.{◌≡◌, ◌≤◌, length};
-ghost use Rattle.limits.specs.Limits.{line_place, longest_message};
+ghost use Rattle.limits.specs.Limits.{line_place};
+ghost use Rattle.lines.specs.Offers.{as_offered};
 ghost use Rattle.lines.specs.Places.{link_in, offered_in};
 
+use crate::offer::Offer;
 use limits::{LINE_HEADER, LINE_PLACE, MESSAGE};
 
 /// The link.
@@ -40,13 +42,13 @@ pub(crate) fn put_link(cell: &mut [u8], link: u16)
 }
 
 /// Puts another message, and leaves the link.
-pub(crate) fn put_message(cell: &mut [u8], suite: u8, message: &[u8])
-    requires cell_len { length cell.old ≡ line_place }
-    requires message_len_bound { length message.now ≤ longest_message }
+pub(crate) fn put_message(cell: &mut [u8], offer: Offer)
+    requires { length cell.old ≡ line_place }
     ensures link { link_in cell.new ≡ link_in cell.old }
-    ensures message { offered_in cell.new ≡ record { suite = suite; message = message.now } }
+    ensures message { offered_in cell.new ≡ as_offered offer.entry }
 {
+    let message = offer.message;
     cell[0..2].copy_from_slice(&(message.len() as u16).to_be_bytes());
-    cell[2] = suite;
+    cell[2] = offer.suite.number as u8;
     cell[LINE_HEADER..LINE_HEADER + message.len()].copy_from_slice(message);
 }

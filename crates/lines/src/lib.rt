@@ -3,6 +3,8 @@
 mod cell;
 pub mod first_come;
 pub mod line;
+mod offer;
 mod places;
 mod store;
+mod suite;
 pub mod turn;

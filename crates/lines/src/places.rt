@@ -1,9 +1,11 @@
 // Places over handed bytes, each with a message and a link. The links, read one after the other, are the order of the places.
-ghost use Rattle.std.specs.Prelude.{◌≡◌, ◌+◌, ◌*◌, ◌<◌, ◌≤◌, length, slice_index};
-ghost use Rattle.limits.specs.Limits.{line_place, longest_message};
+ghost use Rattle.std.specs.Prelude.{◌≡◌, ◌+◌, ◌*◌, ◌<◌, ◌≤◌, slice_index};
+ghost use Rattle.limits.specs.Limits.{line_place};
+ghost use Rattle.lines.specs.Offers.{as_offered};
 ghost use Rattle.lines.specs.Places.{cell, places_in, places_used, link_at, offered_at, order, exchange, brought, ChangedAt, Reordered};
 
 use crate::cell::{link_of, put_link, put_message};
+use crate::offer::Offer;
 use limits::LINE_PLACE;
 use std::ops::Range;
 
@@ -67,16 +69,15 @@ impl<'a> Places<'a> {
     }
 
     /// Puts another message into a place.
-    pub(crate) fn set_message(&mut self, place: usize, suite: u8, message: &[u8])
-        requires place_bound { place < places_in self.old.bytes.now }
-        requires message_len_bound { length message.now ≤ longest_message }
+    pub(crate) fn set_message(&mut self, place: usize, offer: Offer)
+        requires { place < places_in self.old.bytes.now }
         ensures changed { ChangedAt self.old.bytes.now self.new.bytes.now place }
         ensures memory { self.new.bytes.ghost_name ≡ self.old.bytes.ghost_name }
         ensures link { link_at self.new.bytes.now place ≡ link_at self.old.bytes.now place }
-        ensures message { offered_at self.new.bytes.now place ≡ record { suite = suite; message = message.now } }
+        ensures message { offered_at self.new.bytes.now place ≡ as_offered offer.entry }
     {
         let extent = self.extent(place);
-        put_message(&mut self.bytes[extent], suite, message);
+        put_message(&mut self.bytes[extent], offer);
     }
 
     // Swaps two neighbours in the order.

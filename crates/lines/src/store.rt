@@ -10,7 +10,9 @@ ghost use Rattle.lines.specs.Stores.{empty, nothing, Good, FirstOfSuite};
 ghost use Rattle.std.specs.List.{remove};
 
 use crate::cell::{message_of, suite_of};
+use crate::offer::Offer;
 use crate::places::Places;
+use crate::suite::Suite;
 use limits::{LINE_PLACE, LINE_PLACES, MESSAGE, SUITES, outside};
 use refusals::Refusal;
 
@@ -135,7 +137,8 @@ impl<'a> Store<'a> {
     {
         self.check_offer(suite, message.len())?;
         let place = self.place(self.held());
-        self.places.set_message(place, suite as u8, message);
+        let suite = Suite { number: suite };
+        self.places.set_message(place, Offer { suite, message });
         self.waiting += 1;
         Ok(())
     }
@@ -180,12 +183,13 @@ impl<'a> Store<'a> {
     }
 
     /// The suite of message k of those that wait.
-    pub(crate) fn suite(&self, k: usize) -> usize
-        requires k_lt_waiting { k < self.now.waiting }
-        ensures value { result ≡ (slice_index_or (view self.now).queue k nothing).suite }
-        ensures bound { (1 ≤ result) × (result ≤ most_suites) }
+    pub(crate) fn suite(&self, k: usize) -> Suite
+        requires { k < self.now.waiting }
+        ensures { result.number ≡ (slice_index_or (view self.now).queue k nothing).suite }
     {
-        usize::from(suite_of(self.cell(self.agreed + k)))
+        Suite {
+            number: usize::from(suite_of(self.cell(self.agreed + k))),
+        }
     }
 
     /// How many messages are agreed, or that the line cannot be used.

@@ -6,7 +6,7 @@ use Rattle.lines.proofs.places.Places.set_message.Goals as goal
 pub returns : goal.returns
 returns c =
     let bs = c.args.self.now.bytes.now in
-    let there = c.requires.place_bound in
+    let there = c.requires in
     let extent = c.extent-extent.ensures in
     let long = c.put_message.auto.cell in
     let before = range_is bs _ c.args.place _ _ there extent.start extent.end long in

@@ -4,9 +4,9 @@ use Rattle.lines.specs.Stores.{nothing, stored}
 use Rattle.std.proofs.lemmas.List.Edits.{get_or-between}
 use Rattle.lines.proofs.store.Store.suite.Goals as goal
 
-pub returns-clause-value : goal.returns-clause-value
+pub returns : goal.returns
 unfolding stored
-returns-clause-value c =
+returns c =
     let s = c.args.self.now in
     let there = get_or-between (row s.places.bytes.now) s.agreed (s.agreed + s.waiting) c.args.k nothing (omega arith) in
     c.from.ensures ∙ c.suite_of.ensures ∙ ap (λ o. o.suite) (c.cell.ensures ∙ sym there)

@@ -11,13 +11,13 @@ returns c =
     let s = line.store in
     let w = s.waiting in
     let before = view s in
-    let found = soonest_picks line.turn before.queue w c.unwrap.result c.min_by_key.ensures.ran c.unwrap.ensures
+    let found = soonest_picks line.turn.number before.queue w c.unwrap.result c.min_by_key.ensures.ran c.unwrap.ensures
     (YieldsList-from_range 0 c.waiting.result w refl (omega (arith, c.waiting.ensures.value)))
     (λ j r f k. search (rules, tests)) in
     let sound = sound_of s in
     record {
       bound = found.1.there;
-      first = soonest_first before s.agreed w line.turn c.unwrap.result found.0 sound line.from_1 line.up_to_8 found.1;
-      suite = soonest_picked before s.agreed w line.turn c.unwrap.result found.0 sound line.from_1 line.up_to_8 found.1;
-      passed = soonest_passes before s.agreed w line.turn c.unwrap.result found.0 sound line.from_1 line.up_to_8 found.1;
+      first = soonest_first before s.agreed w line.turn.number c.unwrap.result found.0 sound line.turn.from_1 line.turn.up_to_8 found.1;
+      suite = soonest_picked before s.agreed w line.turn.number c.unwrap.result found.0 sound line.turn.from_1 line.turn.up_to_8 found.1;
+      passed = soonest_passes before s.agreed w line.turn.number c.unwrap.result found.0 sound line.turn.from_1 line.turn.up_to_8 found.1;
     }

@@ -1,5 +1,5 @@
 use Rattle.lines.proofs.Meanings.{lawful_store}
-use Rattle.lines.proofs.first_come.calls.FirstComeLine.settle.Goals as goal
+use Rattle.lines.proofs.first_come.FirstComeLine.settle.Goals as goal
 
 pub returns-in_err-check_settle-clause-law : goal.returns-in_err-check_settle-clause-law
 returns-in_err-check_settle-clause-law c = search lawful_store
