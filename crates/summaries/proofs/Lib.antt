@@ -1,2 +1,3 @@
+mod Chunks
 mod Filled
 mod Words
