@@ -56,7 +56,8 @@ impl Setting for Blank {
     }
 
     fn read(bytes: &[u8]) -> Option<Blank> {
-        (bytes.len() == Self::WIDTH && are_zero(bytes)).then_some(Blank)
+        let form: &[u8; SETTING_WIDTH] = bytes.as_array()?;
+        are_zero(form).then_some(Blank)
     }
 }
 
@@ -82,13 +83,12 @@ impl Summary for Touched {
     ghost none_from_none = { Prim.search rules };
 
     fn pack(nodes: &[u64], region: &mut [u8]) -> Result<(), Refusal> {
-        if nodes.len() > READS || region.len() != Self::WIDTH {
+        if nodes.len() > READS {
             return Err(Refusal::SummarySize);
         }
-        region.fill(0);
-        if !nodes.is_empty() {
-            region[0] = 1;
-        }
+        let bytes: &mut [u8; SUMMARY_WIDTH] = region.as_mut_array().ok_or(Refusal::SummarySize)?;
+        bytes.fill(0);
+        bytes[0] = u8::from(!nodes.is_empty());
         Ok(())
     }
 
