@@ -8,12 +8,14 @@
 --   IsRead             what may be told of words that have this form to follow
 --   IsToldOf           what may be told of these bytes of a line
 --   Told               what may be told of a line
+--   HasWords           a line that is neither too long nor blank
 -- the lines of an input:
 --   Reader             where a reader of commands stands
 --   reader, reader_at  where it stands, and where it stands at first
 --   IsLine             what is gathered of the next line
---   LosesLine          no more than one line is lost
---   Asks               what a call of `next` answers and leaves
+--   LosesPart          what is lost of a line where the input fails
+--   Answers            what a call of `next` answers and leaves, but for what always stays
+--   Asks               the same, with what always stays
 -- numbers:
 --   Fits               what is read where a word writes this number, if it writes one
 use Rattle.std.specs.Prelude.{◌≡◌, ◌≢◌, ℕ, ◌+◌, ◌-◌, ◌^◌, Bool, true, false, List, [], ◌∷◌, ◌++◌, All, Some, None, Option, Ok, Err, Result, IfSome, MatchOption, ◌⊎◌, ◌==◌, codes, decimal, get_or, nat_eq}
@@ -68,10 +70,14 @@ abbrev pub Told : {C : Type 0} → (List (List ℕ) → Result C Misread → Typ
 Told gives forms line told =
     MatchOption (whole_line line) (told ≡ Err (LongLine line.most)) (λ bytes. IsToldOf gives bytes (is_blank bytes) (form_of forms bytes) told)
 
+-- a line that is neither too long nor blank, so that its words are read
+abbrev pub HasWords : Gathered → Type 0
+HasWords line = (bytes : List ℕ) × (whole_line line ≡ Some bytes) × (is_blank bytes ≡ false)
+
 -- ---- the lines of an input
 
 -- where a reader of commands stands: the bytes that its input has left, where they are known; the forms; the most bytes
--- of a line; and how many lines it still reads
+-- of a line; and how many times it may still be asked
 pub record Reader : Type 0 where
   pub known : Option (List ℕ)
   pub forms : List (Bor (List ℕ))
@@ -97,9 +103,9 @@ IsLine known most g =
     ((line : List ℕ) × All (λ b. b ≢ 10) line × (g ≡ gathered_of most line))
     × IfSome known (λ xs. (is_empty xs ≡ false) × (g ≡ gathered_of most (first_piece 10 xs)))
 
--- no more than one line is lost: bytes that are no newline, or a line as a whole
-abbrev pub LosesLine : Option (List ℕ) → Option (List ℕ) → Type 0
-LosesLine known rest = ((line : List ℕ) × All (λ b. b ≢ 10) line × Consumes known rest line) ⊎ DropsThrough known rest 10
+-- what is lost of a line where the input fails: bytes that are no newline
+abbrev pub LosesPart : Option (List ℕ) → Option (List ℕ) → Type 0
+LosesPart known rest = (line : List ℕ) × All (λ b. b ≢ 10) line × Consumes known rest line
 
 -- what a call of `next` answers and leaves, but for what always stays
 abbrev pub Answers : {C E : Type 0} → (List (List ℕ) → Result C Misread → Type 0) → Reader → Option (Result (Result C NoCommand) E) → Reader → Type 0
@@ -110,7 +116,10 @@ Answers gives before (Some (Ok told)) after =
     (before.turns ≡ after.turns + 1)
     × ((line : Gathered) × IsLine before.known before.most line × Told gives before.forms line told)
     × DropsThrough before.known after.known 10
-Answers gives before (Some (Err e)) after = (before.turns ≡ after.turns + 1) × LosesLine before.known after.known
+Answers gives before (Some (Err e)) after =
+    (before.turns ≡ after.turns + 1)
+    × (LosesPart before.known after.known
+    ⊎ (((line : Gathered) × IsLine before.known before.most line × HasWords line) × DropsThrough before.known after.known 10))
 
 -- what a call of `next` answers and leaves
 abbrev pub Asks : {C E : Type 0} → (List (List ℕ) → Result C Misread → Type 0) → Reader → Option (Result (Result C NoCommand) E) → Reader → Type 0

@@ -1,9 +1,9 @@
 // Lines that ask for something: a line's words are its fields, and the first of them names the command.
-ghost use Rattle.std.specs.Prelude.{◌≡◌, ℕ, List, Some, Result, map, vec_items, IfOk, ⊤};
+ghost use Rattle.std.specs.Prelude.{◌≡◌, ℕ, List, Some, Result, map, vec_items, IfErr, IfOk, ⊤};
 ghost use Rattle.std.specs.Iterator.{at_most};
 ghost use Rattle.texts.specs.Buffers.{gathered};
 ghost use Rattle.texts.specs.Texts.{fields_of, number_of};
-ghost use Rattle.texts.specs.Commands.{no_command_words, form_of, reader, reader_at, Asks, Told, Fits};
+ghost use Rattle.texts.specs.Commands.{no_command_words, form_of, reader, reader_at, Asks, HasWords, Told, Fits};
 ghost use Rattle.texts.specs.declared.command.Misread.{Misread};
 ghost use Rattle.texts.specs.declared.command.Misread.TheVariants.{Memory};
 
@@ -20,7 +20,7 @@ use std::{fmt, io};
 pub enum NoCommand {
     /// It is empty, or a comment: it begins with `#`.
     Blank,
-    /// It has more bytes than a line may have, which is this many.
+    /// It has more bytes than a line may have; this says how many it may have.
     LongLine(usize),
     /// Its first word names no command.
     Unknown,
@@ -77,7 +77,7 @@ pub struct Commands<'a, R, C> {
     input: R,
     line: LineBuffer,
     forms: &'a [&'static str],
-    // how many lines it still reads: the count by which a loop over them is seen to end
+    // how many times it may still be asked: the count by which a loop over it is seen to end
     turns: u64,
     asked: PhantomData<C>,
 }
@@ -106,7 +106,8 @@ impl<R: BufRead + Drop, C: FromWords> Iterator for Commands<'_, R, C> {
 
     ghost remaining = { λ commands. at_most commands.turns };
 
-    /// What the next line asks for, or why it asks for nothing; none at the end of the input.
+    /// What the next line asks for, or why it asks for nothing; none at the end of the input. An error is the input's, or
+    /// there was no memory; what is left of the line is read as a line then.
     fn next(&mut self) -> Option<io::Result<Result<C, NoCommand>>> {
         self.turns = self.turns.checked_sub(1)?;
         match self.line.read(&mut self.input) {
@@ -120,13 +121,14 @@ impl<R: BufRead + Drop, C: FromWords> Iterator for Commands<'_, R, C> {
     }
 }
 
-/// What a line asks for. It fails only where there is no memory.
+/// What a line asks for. It fails only where there is no memory for its words or for what they say.
 fn command_of<C: FromWords>(
     heap: Global,
     line: &LineBuffer,
     forms: &[&'static str],
 ) -> Result<Result<C, NoCommand>, AllocError>
-    ensures { IfOk result (Told C.from_words_gives forms.now (gathered line.now)) }
+    ensures told { IfOk result (Told C.from_words_gives forms.now (gathered line.now)) }
+    ensures fails { IfErr result (λ _. HasWords (gathered line.now)) }
 {
     let Some(bytes) = line.whole() else {
         return Ok(Err(NoCommand::LongLine(line.most)));
@@ -163,7 +165,7 @@ fn form_for(forms: &[&'static str], line: &[u8]) -> Option<&'static str>
         .copied()
 }
 
-/// The integer that `word` writes in decimal digits.
+/// The integer that `word` writes in decimal digits, if it is below 2^64 and the type has it.
 pub fn integer<N: TryFrom<u64>>(word: &[u8]) -> Result<N, Misread>
 where
     N::Error: Drop,
