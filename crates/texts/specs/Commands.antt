@@ -8,7 +8,7 @@
 --   IsRead             what may be told of words that have this form to follow
 --   IsToldOf           what may be told of these bytes of a line
 --   Told               what may be told of a line
---   HasWords           a line that is neither too long nor blank
+--   HasForm            a line that is neither too long nor blank, and has a form to follow
 -- the lines of an input:
 --   Reader             where a reader of commands stands
 --   reader, reader_at  where it stands, and where it stands at first
@@ -18,11 +18,14 @@
 --   Asks               the same, with what always stays
 -- numbers:
 --   Fits               what is read where a word writes this number, if it writes one
-use Rattle.std.specs.Prelude.{◌≡◌, ◌≢◌, ℕ, ◌+◌, ◌-◌, ◌^◌, Bool, true, false, List, [], ◌∷◌, ◌++◌, All, Some, None, Option, Ok, Err, Result, IfSome, MatchOption, ◌⊎◌, ◌==◌, codes, decimal, get_or, nat_eq}
+use Rattle.std.specs.Prelude.{◌≡◌, ◌≢◌, ℕ, ◌+◌, ◌-◌, ◌^◌, Bool, true, false, List, [], ◌∷◌, ◌++◌, All, Some, None, Option, Ok, Err, Result, IfSome, IsSome, MatchOption, ◌⊎◌, ◌==◌, codes, decimal, get_or, nat_eq}
 use Rattle.std.specs.Borrow.{Bor}
 use Rattle.std.specs.Io.BufRead.{first_piece, DropsThrough}
 use Rattle.std.specs.Io.KnownBytes.{Consumes, IsAtEnd}
 use Rattle.std.specs.List.{find}
+use Rattle.std.specs.IoError.{error_kind}
+use Rattle.std.specs.declared.io.Error.{Error}
+use Rattle.std.specs.declared.io.ErrorKind.TheVariants.{OutOfMemory}
 use Rattle.std.specs.Cmp.Lexicographic.{pointwise}
 use Rattle.texts.specs.Buffers.{Gathered, gathered, gathered_of, whole_line}
 use Rattle.texts.specs.Texts.{fields_of, is_empty}
@@ -70,9 +73,9 @@ abbrev pub Told : {C : Type 0} → (List (List ℕ) → Result C Misread → Typ
 Told gives forms line told =
     MatchOption (whole_line line) (told ≡ Err (LongLine line.most)) (λ bytes. IsToldOf gives bytes (is_blank bytes) (form_of forms bytes) told)
 
--- a line that is neither too long nor blank, so that its words are read
-abbrev pub HasWords : Gathered → Type 0
-HasWords line = (bytes : List ℕ) × (whole_line line ≡ Some bytes) × (is_blank bytes ≡ false)
+-- a line that is neither too long nor blank, and has a form to follow, so that its words are read
+abbrev pub HasForm : List (Bor (List ℕ)) → Gathered → Type 0
+HasForm forms line = MatchOption (whole_line line) ⊥ (λ bytes. (is_blank bytes ≡ false) × IsSome (form_of forms bytes))
 
 -- ---- the lines of an input
 
@@ -108,7 +111,7 @@ abbrev pub LosesPart : Option (List ℕ) → Option (List ℕ) → Type 0
 LosesPart known rest = (line : List ℕ) × All (λ b. b ≢ 10) line × Consumes known rest line
 
 -- what a call of `next` answers and leaves, but for what always stays
-abbrev pub Answers : {C E : Type 0} → (List (List ℕ) → Result C Misread → Type 0) → Reader → Option (Result (Result C NoCommand) E) → Reader → Type 0
+abbrev pub Answers : {C : Type 0} → (List (List ℕ) → Result C Misread → Type 0) → Reader → Option (Result (Result C NoCommand) Error) → Reader → Type 0
 Answers gives before None after =
     ((before.turns ≡ 0) × (after ≡ before))
     ⊎ ((before.turns ≡ after.turns + 1) × IsAtEnd before.known × DropsThrough before.known after.known 10)
@@ -119,10 +122,12 @@ Answers gives before (Some (Ok told)) after =
 Answers gives before (Some (Err e)) after =
     (before.turns ≡ after.turns + 1)
     × (LosesPart before.known after.known
-    ⊎ (((line : Gathered) × IsLine before.known before.most line × HasWords line) × DropsThrough before.known after.known 10))
+    ⊎ ((error_kind e ≡ OutOfMemory)
+    × ((line : Gathered) × IsLine before.known before.most line × HasForm before.forms line)
+    × DropsThrough before.known after.known 10))
 
 -- what a call of `next` answers and leaves
-abbrev pub Asks : {C E : Type 0} → (List (List ℕ) → Result C Misread → Type 0) → Reader → Option (Result (Result C NoCommand) E) → Reader → Type 0
+abbrev pub Asks : {C : Type 0} → (List (List ℕ) → Result C Misread → Type 0) → Reader → Option (Result (Result C NoCommand) Error) → Reader → Type 0
 Asks gives before answer after = (after.forms ≡ before.forms) × (after.most ≡ before.most) × Answers gives before answer after
 
 -- ---- numbers

@@ -1,9 +1,9 @@
 // Lines that ask for something: a line's words are its fields, and the first of them names the command.
-ghost use Rattle.std.specs.Prelude.{◌≡◌, ℕ, List, Some, Result, map, vec_items, IfErr, IfOk, ⊤};
+ghost use Rattle.std.specs.Prelude.{◌≡◌, ℕ, List, Some, Result, map, vec_items, IfOk, OnErr, ⊤};
 ghost use Rattle.std.specs.Iterator.{at_most};
 ghost use Rattle.texts.specs.Buffers.{gathered};
 ghost use Rattle.texts.specs.Texts.{fields_of, number_of};
-ghost use Rattle.texts.specs.Commands.{no_command_words, form_of, reader, reader_at, Asks, HasWords, Told, Fits};
+ghost use Rattle.texts.specs.Commands.{no_command_words, form_of, reader, reader_at, Asks, HasForm, Told, Fits};
 ghost use Rattle.texts.specs.declared.command.Misread.{Misread};
 ghost use Rattle.texts.specs.declared.command.Misread.TheVariants.{Memory};
 
@@ -128,7 +128,7 @@ fn command_of<C: FromWords>(
     forms: &[&'static str],
 ) -> Result<Result<C, NoCommand>, AllocError>
     ensures told { IfOk result (Told C.from_words_gives forms.now (gathered line.now)) }
-    ensures fails { IfErr result (λ _. HasWords (gathered line.now)) }
+    ensures fails { OnErr result (HasForm forms.now (gathered line.now)) }
 {
     let Some(bytes) = line.whole() else {
         return Ok(Err(NoCommand::LongLine(line.most)));
@@ -136,10 +136,10 @@ fn command_of<C: FromWords>(
     if let [] | [b'#', ..] = bytes {
         return Ok(Err(NoCommand::Blank));
     }
-    let words = words_of(heap, bytes)?;
     let Some(form) = form_for(forms, bytes) else {
         return Ok(Err(NoCommand::Unknown));
     };
+    let words = words_of(heap, bytes)?;
     match C::from_words(heap, words.as_slice()) {
         Ok(command) => Ok(Ok(command)),
         Err(Misread::Form) => Ok(Err(NoCommand::Expected(form))),

@@ -17,4 +17,4 @@ returns-in-Err-command_of-clause-steps g c =
     let line = read.gathers in
     let known = known_line _ _ _ _ c.in-Ok-true.field-0-test read.some read.line in
     let most = ap (λ gathered. gathered.most) line.2 in
-    (refl, most, (search rules, inr ((gathered c.read.new.self, ((line.0, line.1, line.2), known), c.in-Err-command_of.ensures.fails), read.rest)))
+    (refl, most, (search rules, inr (search rules, (gathered c.read.new.self, ((line.0, line.1, line.2), known), c.in-Err-command_of.ensures.fails), read.rest)))
