@@ -7,9 +7,10 @@
 --   served_in_turn  a line after so many settles by turn, the first from this turn on
 --   served          a line after settles that served these suites
 --   LineExamples    the examples
-use Rattle.std.specs.Prelude.{◌≡◌, ℕ, zero, suc, List, [], ◌∷◌, replicate, Ok, Err}
-use Rattle.lines.specs.Lines.{LineState, empty_line, settled, offer_answer, after_offer, settle_answer, count_answer, fetch_answer, message_number, after_fetch}
-use Rattle.lines.specs.Orders.{Offered, lane, suite_after, turn_picks}
+use Rattle.std.specs.Prelude.{◌≡◌, ℕ, zero, suc, List, [], ◌∷◌, ◌++◌, map, drop, replicate, Ok, Err}
+use Rattle.lines.specs.Lines.{LineState, empty_line, settled, Serves, offer_answer, after_offer, settle_answer, count_answer, fetch_answer, message_number, after_fetch}
+use Rattle.lines.specs.Orders.{Offered, lane, queue_after_offer, arrivals, ServesHead, suite_after, turn_picks, ServesTurn}
+use Rattle.lines.specs.Places.{places_in, rest}
 use Rattle.refusals.specs.declared.Refusal.TheVariants.{MemorySize, NoSuchSlot, LineFull, NothingWaiting, MessageLength, NoSuchMessage}
 
 -- a message of one byte, for a suite
@@ -43,12 +44,21 @@ served (u ∷ us) m = served us (settled m u)
 -- the orders of both lines, which refusal comes first, and what the calls answer
 pub record LineExamples : Type 0 where
   -- served as they were offered, the messages are agreed in the order of offering
-  pub by_offers : (served (3 ∷ 1 ∷ 1 ∷ 8 ∷ 2 ∷ []) five_offers).agreed ≡ (0x3a ∷ []) ∷ (0x1a ∷ []) ∷ (0x1b ∷ []) ∷ (0x8a ∷ []) ∷ (0x2a ∷ []) ∷ []
+  pub by_offers : (served (map (λ o. o.suite) five) five_offers).agreed ≡ (0x3a ∷ []) ∷ (0x1a ∷ []) ∷ (0x1b ∷ []) ∷ (0x8a ∷ []) ∷ (0x2a ∷ []) ∷ []
   -- suite 1 has the turn, then 2; 3 and 8 follow past suites with nothing, and then it is suite 1's turn again
   pub by_turns : (served_in_turn 5 1 five_offers).agreed ≡ (0x1a ∷ []) ∷ (0x2a ∷ []) ∷ (0x3a ∷ []) ∷ (0x8a ∷ []) ∷ (0x1b ∷ []) ∷ []
   -- from turn 4 on, suite 8 comes first; from 2 on, suite 2
   pub from_four : turn_picks five_offers.waiting 4 ≡ 8
   pub from_two : turn_picks five_offers.waiting 2 ≡ 2
+  -- a first-come line settles the head of the queue, which is for suite 3; all messages then stand as they did
+  pub head_served : ServesHead five (drop 1 five) five_offers (settled five_offers 3)
+  pub still_in_order : arrivals (settled five_offers 3) (drop 1 five) ≡ arrivals five_offers five
+  pub one_more : queue_after_offer (Ok tt) (drop 1 five) 4 (0x4a ∷ []) ≡ drop 1 five ++ one_byte 4 0x4a ∷ []
+  -- a turn line passes over the suites 4 to 7, serves suite 8, and then it is suite 1's turn
+  pub turn_served : ServesTurn 4 1 five_offers (settled five_offers 8)
+  -- no line serves suite 4, for which nothing waits, or suite 0
+  pub never_4 : (after : LineState) → Serves five_offers after 4 → ⊥
+  pub never_0 : (before after : LineState) → Serves before after 0 → ⊥
   -- what waits for suite 1 is the same in the queue and in the line
   pub waiting_for_1 : five_offers.waiting 1 ≡ lane 1 five
   pub waiting_for_4 : five_offers.waiting 4 ≡ []
@@ -73,3 +83,8 @@ pub record LineExamples : Type 0 where
   pub buffer_too_short : fetch_answer (served (8 ∷ []) five_offers) 1 0 ≡ Err NoSuchMessage
   pub message_zero : fetch_answer (served (8 ∷ []) five_offers) 0 9 ≡ Err NoSuchMessage
   pub not_agreed_yet : fetch_answer (served (8 ∷ []) five_offers) 2 9 ≡ Err NoSuchMessage
+  -- a place has 1,168 bytes; what is left of the bytes is no place
+  pub no_place : places_in (replicate 1167 0) ≡ 0
+  pub one_place : places_in (replicate 1168 0) ≡ 1
+  pub still_one : places_in (replicate 2335 0) ≡ 1
+  pub past_it : rest (replicate 1168 0 ++ 7 ∷ 8 ∷ []) ≡ 7 ∷ 8 ∷ []

@@ -1,4 +1,4 @@
--- An element of a list brought forward: where each element then comes from, how neighbours that change places do it one
+-- An element of a list brought forward: where each element then comes from, how swaps of neighbours do it one
 -- after the other, and what it makes of a list that is cut in two.
 use Rattle.std.proofs.Common.{◌≡◌, ℕ, suc, ◌+◌, ◌-◌, ◌<◌, ◌≤◌, cond, eqb, ltb, ◌⊎◌, List, [], ◌∷◌, ◌++◌, map, length, get_or, take, drop, set, sym, ap, ◌∙◌, ap₂, inl, inr, arith}
 use lib.Seq.{take-append-add}
@@ -125,7 +125,7 @@ module _ {X : Type 0} (d : X) (i from : ℕ) (xs : List X) (low : i < from) (hig
       let width : from - i ≡ suc (from - (i + 1)) = omega arith in
       ap (λ n. take n (drop i xs)) width ∙ ap (take (suc (from - (i + 1)))) (drop_more xs i d (omega arith))
 
-  -- neighbours change places
+  -- neighbours are swapped
   pub brought_more : set (set nearer i (get_or nearer (i + 1) d)) (i + 1) (get_or nearer i d) ≡ brought d i from xs
   brought_more =
       ap₂ (λ u v. set (set nearer i u) (i + 1) v) second first

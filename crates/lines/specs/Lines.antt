@@ -9,22 +9,21 @@
 --   empty_line       what a line of this limit means that holds nothing
 --   AllowedLength    the length that a message may have
 --   Lawful           what holds of every line at any moment
---   offer_check      offering: the first refusal, by the numbers it depends on
+--   offer_check      whether an offer is refused, and why, by the numbers that this depends on
 --   offer_answer     what offering answers
 --   offered          the message at the end of its suite's waiting list
 --   after_offer      what a line means after an offer
---   settle_check     settling: the first refusal, by the numbers it depends on
+--   settle_check     whether a settle is refused, and why, by the numbers that this depends on
 --   settle_answer    what settling answers
 --   settled          the first message that waits for a suite, at the end of the agreed list
 --   Serves           that a settle served this suite
 --   Settles          what a settle does
---   count_check      counting, by the numbers it depends on
+--   count_check      what counting answers, by the numbers that this depends on
 --   count_answer     what counting answers
---   fetch_check      fetching: the first refusal, by the numbers it depends on
+--   fetch_check      what fetching answers, by the numbers that this depends on
 --   message_number   the agreed message of a number
 --   fetch_answer     what fetching answers
 --   after_fetch      what the buffer holds after a fetch
---   SameIfRefused    a refused call leaves this as it was
 use Rattle.std.specs.Prelude.{◌≡◌, ℕ, zero, suc, ◌+◌, ◌-◌, ◌<◌, ◌≤◌, Bool, true, if◌then◌else◌, List, [], ◌∷◌, ◌++◌, length, take, drop, Ok, Err, Result, ◌==◌, nat_le, nat_lt, slice_index_or}
 use Rattle.limits.specs.Limits.{most_suites, most_held, longest_message, outside}
 use Rattle.refusals.specs.declared.Refusal.{Refusal}
@@ -77,7 +76,8 @@ pub record Lawful (m : LineState) : Type 0 where
 
 -- ---- offer
 
--- the first refusal of an offer to a line with this limit that holds so many messages, for this suite, of so many bytes
+-- whether an offer is refused, and why: an offer to a line with this limit that holds `total` messages, for this suite, of a
+-- message with so many bytes
 abbrev pub offer_check : ℕ → ℕ → ℕ → ℕ → Result (Unit {0}) Refusal
 offer_check limit total suite bytes =
     if unusable limit then Err MemorySize
@@ -105,7 +105,7 @@ after_offer (Err _) m suite message = m
 
 -- ---- settle
 
--- the first refusal of a settle of a line with this limit where so many messages wait
+-- whether a settle is refused, and why: a settle of a line with this limit where so many messages wait
 abbrev pub settle_check : ℕ → ℕ → Result (Unit {0}) Refusal
 settle_check limit waiting =
     if unusable limit then Err MemorySize else if waiting == 0 then Err NothingWaiting else Ok tt
@@ -166,10 +166,3 @@ fetch_answer m k room = fetch_check m.limit (length m.agreed) k (length (message
 abbrev pub after_fetch : Result ℕ Refusal → List ℕ → List ℕ → List ℕ
 after_fetch (Ok n) message buffer = message ++ drop n buffer
 after_fetch (Err _) message buffer = buffer
-
--- ---- all calls
-
--- a call that was answered so leaves this as it was, if it is refused
-abbrev pub SameIfRefused : {A X : Type 0} → Result A Refusal → X → X → Type 0
-SameIfRefused (Ok _) before after = Unit {0}
-SameIfRefused (Err _) before after = after ≡ before

@@ -2,7 +2,7 @@
 --
 --   Offered               a message that was offered, with its suite
 --   lane                  what waits for a suite, of a queue of offered messages
---   queue_after_offer     the queue of a first-come line after an offer
+--   queue_after_offer     the queue of all that waits, after an offer
 --   arrivals              all messages: what is agreed, then the queue
 --   arrivals_after_offer  all messages after an offer
 --   ServesHead            that a settle served the head of the queue
@@ -28,7 +28,7 @@ abbrev pub lane : ℕ → List Offered → List (List ℕ)
 lane u [] = []
 lane u (o ∷ os) = if u == o.suite then o.message ∷ lane u os else lane u os
 
--- ---- the first-come line: one queue of all that waits
+-- ---- one queue of all that waits, in the order of offering
 
 -- the queue after an offer that was answered so
 abbrev pub queue_after_offer : Result (Unit {0}) Refusal → List Offered → ℕ → List ℕ → List Offered

@@ -14,7 +14,7 @@
 --   row             what stands in the places, in their order
 --   rest            the bytes past the last whole place
 --   ChangedAt       only the bytes of one place were changed
---   exchange        two neighbours that change places
+--   exchange        two neighbours swapped
 --   brought         an element brought forward to a place, and those from there on one place back
 --   Reordered       only the order of the places was changed
 --   LinksInside     every link is a place
@@ -75,11 +75,11 @@ pub record ChangedAt (bs bs' : List ℕ) (p : ℕ) : Type 0 where
   pub others : (q : ℕ) → q < places_in bs → (q ≢ p) → cell bs' q ≡ cell bs q
   pub beyond : rest bs' ≡ rest bs
 
--- elements i and i + 1 change places
+-- elements i and i + 1 are swapped
 abbrev pub exchange : ℕ → List ℕ → List ℕ
 exchange i xs = slice_set (slice_set xs i (slice_index xs (i + 1))) (i + 1) (slice_index xs i)
 
--- element `from` stands at `to`, and those from `to` on up to it one place further back
+-- element `from` stands at `to`, and those from `to` on up to it one position further back
 abbrev pub brought : {X : Type 0} → X → ℕ → ℕ → List X → List X
 brought d to from xs = take to xs ++ slice_index_or xs from d ∷ (between to from xs ++ drop (from + 1) xs)
 

@@ -30,7 +30,7 @@ pub(crate) fn message_of(cell: &[u8; LINE_PLACE]) -> &[u8]
     &cell[LINE_HEADER..LINE_HEADER + length]
 }
 
-// What writes takes a slice: where a part of the places is lent as an array, a proof does not learn what was written.
+// The two below take slices: where a part of the places is lent as an array, a proof does not learn what was written.
 
 /// Puts another link, and leaves the message.
 pub(crate) fn put_link(cell: &mut [u8], link: u16)

@@ -1,7 +1,7 @@
 // The first-come line: it settles messages in the order in which they were offered.
-ghost use Rattle.std.specs.Prelude.{◌≡◌};
+ghost use Rattle.std.specs.Prelude.{◌≡◌, OnErr};
 ghost use Rattle.lines.specs.FirstComes.{contents, arrivals_of, handed};
-ghost use Rattle.lines.specs.Lines.{empty_line, Lawful, offer_answer, after_offer, settle_answer, Settles, SameIfRefused};
+ghost use Rattle.lines.specs.Lines.{empty_line, Lawful, offer_answer, after_offer, settle_answer, Settles};
 ghost use Rattle.lines.specs.Orders.{queue_after_offer, arrivals_after_offer, FirstComeOrder};
 ghost use Rattle.lines.specs.Places.{places_in, rest};
 ghost use Rattle.lines.specs.StoreLaws.{lawful_line};
@@ -41,7 +41,7 @@ impl<'a> Line for FirstCome<'a> {
         ensures answer { result ≡ offer_answer (state_of (contents self.old)) suite message.now }
         ensures line { state_of (contents self.new) ≡ after_offer result (state_of (contents self.old)) suite message.now }
         ensures law { Lawful (state_of (contents self.new)) }
-        ensures same { SameIfRefused result (handed self.old).now (handed self.new).now }
+        ensures same { OnErr result (self.new ≡ self.old) }
         ensures order { (contents self.new).queue ≡ queue_after_offer result (contents self.old).queue suite message.now }
         ensures arrivals { arrivals_of self.new ≡ arrivals_after_offer result (arrivals_of self.old) message.now }
         ensures memory { (handed self.new).ghost_name ≡ (handed self.old).ghost_name }
@@ -54,7 +54,7 @@ impl<'a> Line for FirstCome<'a> {
         ensures answer { result ≡ settle_answer (state_of (contents self.old)) }
         ensures choice { Settles result (state_of (contents self.old)) (state_of (contents self.new)) }
         ensures law { Lawful (state_of (contents self.new)) }
-        ensures same { SameIfRefused result (handed self.old).now (handed self.new).now }
+        ensures same { OnErr result (self.new ≡ self.old) }
         ensures order { FirstComeOrder result (contents self.old).queue (contents self.new).queue (state_of (contents self.old)) (state_of (contents self.new)) }
         ensures arrivals { arrivals_of self.new ≡ arrivals_of self.old }
         ensures memory { (handed self.new).ghost_name ≡ (handed self.old).ghost_name }

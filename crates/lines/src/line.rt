@@ -1,5 +1,5 @@
-// What every line shows. A session is written and proved once, over this trait.
-ghost use Rattle.std.specs.Prelude.{◌≡◌, length};
+// What every line shows. Whatever handles a line is written and proved once, over this trait.
+ghost use Rattle.std.specs.Prelude.{◌≡◌, OnErr, length};
 ghost use Rattle.lines.specs.Lines.{LineState, Lawful, offer_answer, after_offer, settle_answer, Settles, count_answer, fetch_answer, message_number, after_fetch};
 
 use refusals::Refusal;
@@ -13,12 +13,14 @@ pub trait Line {
     fn offer(&mut self, suite: usize, message: &[u8]) -> Result<(), Refusal>
         ensures answer { result ≡ offer_answer (state self.old) suite message.now }
         ensures line { state self.new ≡ after_offer result (state self.old) suite message.now }
+        ensures same { OnErr result (self.new ≡ self.old) }
         ensures law { Lawful (state self.new) };
 
     /// Moves the first message of one waiting list to the end of the agreed list. The line chooses which.
     fn settle(&mut self) -> Result<(), Refusal>
         ensures answer { result ≡ settle_answer (state self.old) }
         ensures choice { Settles result (state self.old) (state self.new) }
+        ensures same { OnErr result (self.new ≡ self.old) }
         ensures law { Lawful (state self.new) };
 
     /// How many messages are agreed.

@@ -9,7 +9,7 @@ use crate::suite::Suite;
 pub(crate) struct Offer<'a> {
     pub suite: Suite,
     pub message: &'a [u8],
-    // there is a message, and a place can hold it
+    // the message is not empty, and a place can hold it
     ghost some: { 1 ≤ length message.now },
     ghost short: { length message.now ≤ longest_message },
 }

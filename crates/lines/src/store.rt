@@ -1,11 +1,11 @@
 // The store of both lines: the order of places cut into agreed, waiting and free ones. The agreed places come first, in
 // the order of agreement, then the waiting ones in the order of offering, then those that are free.
-ghost use Rattle.std.specs.Prelude.{◌≡◌, ◌+◌, ◌<◌, ◌≤◌, [], ◌∷◌, ◌++◌, length, if◌then◌else◌, Ok, Err, OnOk, slice_index, slice_index_or};
+ghost use Rattle.std.specs.Prelude.{◌≡◌, ◌+◌, ◌<◌, ◌≤◌, [], ◌∷◌, ◌++◌, length, if◌then◌else◌, Ok, Err, OnOk, OnErr, slice_index, slice_index_or};
 ghost use Rattle.limits.specs.Limits.{most_suites, longest_message};
 ghost use Rattle.refusals.specs.declared.Refusal.TheVariants.{MemorySize};
-ghost use Rattle.lines.specs.Lines.{waiting_count, held, empty_line, Serves, unusable, offer_check, offer_answer, after_offer, settle_answer, count_answer, fetch_answer, message_number, after_fetch, SameIfRefused};
+ghost use Rattle.lines.specs.Lines.{waiting_count, held, empty_line, Serves, unusable, offer_check, offer_answer, after_offer, settle_answer, count_answer, fetch_answer, message_number, after_fetch};
 ghost use Rattle.lines.specs.Orders.{queue_after_offer, arrivals, arrivals_after_offer, ServesHead};
-ghost use Rattle.lines.specs.Places.{offered_in, places_in, places_used, order, row, rest};
+ghost use Rattle.lines.specs.Places.{cell, offered_in, places_in, places_used, order, row, rest};
 ghost use Rattle.lines.specs.Stores.{empty, nothing, Good, FirstOfSuite};
 ghost use Rattle.std.specs.List.{remove};
 
@@ -101,7 +101,8 @@ impl<'a> Store<'a> {
     // The bytes of that place.
     fn cell(&self, i: usize) -> &[u8; LINE_PLACE]
         requires { i < places_used (memory self.now).now }
-        ensures { offered_in result.now ≡ slice_index_or (row (memory self.now).now) i nothing }
+        ensures value { result.now ≡ cell (memory self.now).now (slice_index (order (memory self.now).now) i) }
+        ensures row { offered_in result.now ≡ slice_index_or (row (memory self.now).now) i nothing }
     {
         self.places.cell(self.place(i))
     }
@@ -129,7 +130,7 @@ impl<'a> Store<'a> {
     pub(crate) fn offer(&mut self, suite: usize, message: &[u8]) -> Result<(), Refusal>
         ensures answer { result ≡ offer_answer (line_of self.old) suite message.now }
         ensures line { line_of self.new ≡ after_offer result (line_of self.old) suite message.now }
-        ensures same { SameIfRefused result (memory self.old).now (memory self.new).now }
+        ensures same { OnErr result (self.new ≡ self.old) }
         ensures order { (view self.new).queue ≡ queue_after_offer result (view self.old).queue suite message.now }
         ensures arrivals { arrivals (line_of self.new) (view self.new).queue ≡ arrivals_after_offer result (arrivals (line_of self.old) (view self.old).queue) message.now }
         ensures memory { (memory self.new).ghost_name ≡ (memory self.old).ghost_name }
@@ -159,7 +160,7 @@ impl<'a> Store<'a> {
     pub(crate) fn settle(&mut self, k: usize)
         requires k_lt_waiting { k < self.old.waiting }
         requires first_of_suite { FirstOfSuite (view self.old).queue k }
-        ensures serves { Serves (line_of self.old) (line_of self.new) (slice_index_or (view self.old).queue k nothing).suite }
+        ensures choice { Serves (line_of self.old) (line_of self.new) (slice_index_or (view self.old).queue k nothing).suite }
         ensures agreed { (line_of self.new).agreed ≡ (line_of self.old).agreed ++ (slice_index_or (view self.old).queue k nothing).message ∷ [] }
         ensures order { (view self.new).queue ≡ remove (view self.old).queue k }
         ensures memory { (memory self.new).ghost_name ≡ (memory self.old).ghost_name }

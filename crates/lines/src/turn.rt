@@ -1,10 +1,10 @@
 // The turn line: suites with waiting messages are served one after the other, and after suite 8 comes suite 1.
-ghost use Rattle.std.specs.Prelude.{◌≡◌, ℕ, ◌<◌, ◌≤◌, [], slice_index_or};
-ghost use Rattle.lines.specs.Lines.{empty_line, Lawful, offer_answer, after_offer, settle_answer, Settles, SameIfRefused};
+ghost use Rattle.std.specs.Prelude.{◌≡◌, OnErr, ℕ, ◌<◌, ◌≤◌, [], slice_index_or};
+ghost use Rattle.lines.specs.Lines.{empty_line, Lawful, offer_answer, after_offer, settle_answer, Settles};
 ghost use Rattle.lines.specs.Orders.{suite_after, steps_to, turn_picks, ByTurn};
 ghost use Rattle.lines.specs.Places.{places_in, rest};
 ghost use Rattle.lines.specs.StoreLaws.{lawful_line};
-ghost use Rattle.lines.specs.Stores.{nothing, state_of, FirstOfSuite};
+ghost use Rattle.lines.specs.Stores.{empty, nothing, state_of, FirstOfSuite};
 
 use crate::line::Line;
 use crate::store::Store;
@@ -24,6 +24,7 @@ impl<'a> Turn<'a> {
     /// An empty line over these bytes, whatever they hold. The turn is with suite 1.
     pub fn new(bytes: &'a mut [u8]) -> Turn<'a>
         ensures line { state_of (contents result) ≡ empty_line (places_in bytes.old) }
+        ensures contents { contents result ≡ empty bytes.old }
         ensures memory { (handed result).ghost_name ≡ bytes.entry.ghost_name }
         ensures beyond { rest (handed result).now ≡ rest bytes.old }
         ensures turn { turn_of result ≡ 1 }
@@ -66,7 +67,7 @@ impl<'a> Line for Turn<'a> {
         ensures answer { result ≡ offer_answer (state_of (contents self.old)) suite message.now }
         ensures line { state_of (contents self.new) ≡ after_offer result (state_of (contents self.old)) suite message.now }
         ensures law { Lawful (state_of (contents self.new)) }
-        ensures same { SameIfRefused result (handed self.old).now (handed self.new).now }
+        ensures same { OnErr result (self.new ≡ self.old) }
         ensures turn { turn_of self.new ≡ turn_of self.old }
         ensures memory { (handed self.new).ghost_name ≡ (handed self.old).ghost_name }
         ensures beyond { rest (handed self.new).now ≡ rest (handed self.old).now }
@@ -78,7 +79,7 @@ impl<'a> Line for Turn<'a> {
         ensures answer { result ≡ settle_answer (state_of (contents self.old)) }
         ensures choice { Settles result (state_of (contents self.old)) (state_of (contents self.new)) }
         ensures law { Lawful (state_of (contents self.new)) }
-        ensures same { SameIfRefused result (handed self.old).now (handed self.new).now }
+        ensures same { OnErr result (self.new ≡ self.old) }
         ensures order { ByTurn result (turn_of self.old) (turn_of self.new) (state_of (contents self.old)) (state_of (contents self.new)) }
         ensures memory { (handed self.new).ghost_name ≡ (handed self.old).ghost_name }
         ensures beyond { rest (handed self.new).now ≡ rest (handed self.old).now }

@@ -13,5 +13,5 @@ returns c =
     let k = c.args.number - 1 in
     let there = get_or-take s.agreed (row bs) k nothing (omega arith) in
     c.message_of.ensures
-    ∙ ap (λ o. o.message) (c.cell.ensures ∙ sym there)
+    ∙ ap (λ o. o.message) (c.cell.ensures.row ∙ sym there)
     ∙ sym (state_message (stored bs s.agreed s.waiting) k)

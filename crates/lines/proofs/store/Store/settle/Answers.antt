@@ -22,10 +22,10 @@ means c =
 pub invariant_of-self : goal.invariant_of-self
 invariant_of-self c = record { good = good c }
 
-pub returns-clause-serves : goal.returns-clause-serves
-returns-clause-serves c =
+pub returns-clause-choice : goal.returns-clause-choice
+returns-clause-choice c =
     let s = c.args.self.now in
-    subst (λ t. Serves (line_of s) (state_of t) (get_or (view s).queue c.args.k nothing).suite) (sym (means (goal.at.returns-clause-serves c).After-bring))
+    subst (λ t. Serves (line_of s) (state_of t) (get_or (view s).queue c.args.k nothing).suite) (sym (means (goal.at.returns-clause-choice c).After-bring))
     (serves (view s) s.agreed s.waiting c.args.k (sound_of s) c.requires.k_lt_waiting c.requires.first_of_suite)
 
 pub returns-clause-agreed : goal.returns-clause-agreed

@@ -9,4 +9,4 @@ unfolding stored
 returns c =
     let s = c.args.self.now in
     let there = get_or-between (row s.places.bytes.now) s.agreed (s.agreed + s.waiting) c.args.k nothing (omega arith) in
-    c.from.ensures ∙ c.suite_of.ensures ∙ ap (λ o. o.suite) (c.cell.ensures ∙ sym there)
+    c.from.ensures ∙ c.suite_of.ensures ∙ ap (λ o. o.suite) (c.cell.ensures.row ∙ sym there)
