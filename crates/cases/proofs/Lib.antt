@@ -1,1 +1,2 @@
 mod Touched
+mod TwoOffers

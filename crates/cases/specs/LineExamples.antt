@@ -8,7 +8,7 @@
 --   served          a line after settles that served these suites
 --   LineExamples    the examples
 use Rattle.std.specs.Prelude.{◌≡◌, ℕ, zero, suc, List, [], ◌∷◌, ◌++◌, map, drop, replicate, Ok, Err}
-use Rattle.lines.specs.Lines.{LineState, empty_line, settled, Serves, offer_answer, after_offer, settle_answer, count_answer, fetch_answer, message_number, after_fetch}
+use Rattle.lines.specs.Lines.{LineState, empty_line, settled, Serves, offer_answer, after_offer, settle_answer, count_answer, fetch_answer, message_number, after_fetch, KeepsAgreed}
 use Rattle.lines.specs.Orders.{Offered, lane, queue_after_offer, arrivals, ServesHead, suite_after, turn_picks, ServesTurn}
 use Rattle.lines.specs.Places.{places_in, rest}
 use Rattle.refusals.specs.declared.Refusal.TheVariants.{MemorySize, NoSuchSlot, LineFull, NothingWaiting, MessageLength, NoSuchMessage}
@@ -41,7 +41,7 @@ abbrev pub served : List ℕ → LineState → LineState
 served [] m = m
 served (u ∷ us) m = served us (settled m u)
 
--- the orders of both lines, which refusal comes first, and what the calls answer
+-- the orders of both lines, which refusal comes first, what the calls answer, and where places end
 pub record LineExamples : Type 0 where
   -- served as they were offered, the messages are agreed in the order of offering
   pub by_offers : (served (map (λ o. o.suite) five) five_offers).agreed ≡ (0x3a ∷ []) ∷ (0x1a ∷ []) ∷ (0x1b ∷ []) ∷ (0x8a ∷ []) ∷ (0x2a ∷ []) ∷ []
@@ -50,13 +50,14 @@ pub record LineExamples : Type 0 where
   -- from turn 4 on, suite 8 comes first; from 2 on, suite 2
   pub from_four : turn_picks five_offers.waiting 4 ≡ 8
   pub from_two : turn_picks five_offers.waiting 2 ≡ 2
-  -- a first-come line settles the head of the queue, which is for suite 3; all messages then stand as they did
+  -- a first-come line settles the head of the queue, which is for suite 3; all messages then stand as they did, and the
+  -- next offer is the queue's last
   pub head_served : ServesHead five (drop 1 five) five_offers (settled five_offers 3)
   pub still_in_order : arrivals (settled five_offers 3) (drop 1 five) ≡ arrivals five_offers five
   pub one_more : queue_after_offer (Ok tt) (drop 1 five) 4 (0x4a ∷ []) ≡ drop 1 five ++ one_byte 4 0x4a ∷ []
   -- a turn line passes over the suites 4 to 7, serves suite 8, and then it is suite 1's turn
   pub turn_served : ServesTurn 4 1 five_offers (settled five_offers 8)
-  -- no line serves suite 4, for which nothing waits, or suite 0
+  -- no settle of this line serves suite 4, for which nothing waits, and none of any line suite 0
   pub never_4 : (after : LineState) → Serves five_offers after 4 → ⊥
   pub never_0 : (before after : LineState) → Serves before after 0 → ⊥
   -- what waits for suite 1 is the same in the queue and in the line
@@ -83,6 +84,9 @@ pub record LineExamples : Type 0 where
   pub buffer_too_short : fetch_answer (served (8 ∷ []) five_offers) 1 0 ≡ Err NoSuchMessage
   pub message_zero : fetch_answer (served (8 ∷ []) five_offers) 0 9 ≡ Err NoSuchMessage
   pub not_agreed_yet : fetch_answer (served (8 ∷ []) five_offers) 2 9 ≡ Err NoSuchMessage
+  -- a line that no longer has what was agreed, or has another message in its place, keeps nothing
+  pub never_lost : KeepsAgreed (served (8 ∷ []) five_offers) five_offers → ⊥
+  pub never_another : KeepsAgreed (served (8 ∷ []) five_offers) (served (3 ∷ []) five_offers) → ⊥
   -- a place has 1,168 bytes; what is left of the bytes is no place
   pub no_place : places_in (replicate 1167 0) ≡ 0
   pub one_place : places_in (replicate 1168 0) ≡ 1

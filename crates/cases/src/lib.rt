@@ -1,9 +1,10 @@
-// Worked examples: facts about the definitions as theorems, and messages and lines at the limits as tests.
+// Worked examples: facts about the definitions and about calls of a line as theorems, and tests at the limits.
 #![tactic(auto)]
 
 ghost use Rattle.cases.specs.Examples.{Examples};
 ghost use Rattle.cases.specs.LineExamples.{LineExamples};
 
+pub mod first_served;
 #[cfg(test)]
 mod line_tests;
 #[cfg(test)]

@@ -1,6 +1,7 @@
 mod Bringing
 mod Cells
 mod Changes
+mod Keeping
 mod Lanes
 mod Meanings
 mod Rows

@@ -1,4 +1,4 @@
--- What a line over the store means, by what the store means: its laws, and its state after an offer and after a settle.
+-- What a store means as a line, by what it holds: its law, and its state after an offer and after a settle.
 use Rattle.std.proofs.Common.{◌≡◌, ℕ, ◌<◌, List, [], ◌∷◌, ◌++◌, map, length, get_or, take, Ok, sym, refl, ap, ◌∙◌, arith}
 use Rattle.lines.proofs.Lanes.{lane_push, lane_first, lane_removed}
 use Rattle.lines.specs.StoreLaws.{SoundStore, sound_store, lawful_line}
@@ -6,15 +6,15 @@ use Rattle.lines.specs.Lines.{empty_line, Lawful, offered, settled, Serves}
 use Rattle.lines.specs.Orders.{Offered, arrivals}
 use Rattle.lines.specs.Places.{places_in}
 use Rattle.lines.specs.Stores.{Sound, nothing, Stored, state_of, empty, stored_offer, stored_settle, FirstOfSuite}
-use Rattle.lines.specs.Views.{memory, view}
+use Rattle.lines.specs.Views.{handed, contents}
 use Rattle.lines.specs.declared.store.Store.{Store}
 use Rattle.std.proofs.Math.ListN.{get_or-map}
 use Rattle.std.proofs.ByRecursion.{All-get_or}
 use Rattle.std.proofs.lemmas.List.{append_assoc, map-append}
 
--- a line over a store is lawful
-pub lawful_store : (s : Store) → Lawful (state_of (view s))
-lawful_store s = lawful_line (memory s).now s.agreed s.waiting s.good
+-- a store is lawful, as a line
+pub lawful_store : {R : Type 0} (s : Store R) → Lawful (state_of (contents s))
+lawful_store s = lawful_line (handed s).now s.agreed s.waiting s.good
 
 pub waiting_sound : (s : Stored) (a w : ℕ) → SoundStore s a w → (k : ℕ) → k < w → Sound (get_or s.queue k nothing)
 waiting_sound s a w fine k small = All-get_or Sound s.queue k nothing (omega (arith, fine.queue_long)) fine.queue_sound
@@ -24,8 +24,8 @@ unfolding state_of
 state_message s k = get_or-map (λ o. o.message) s.agreed k nothing
 
 -- a store is as it always is
-pub sound_of : (s : Store) → SoundStore (view s) s.agreed s.waiting
-sound_of s = sound_store (memory s).now s.agreed s.waiting s.good
+pub sound_of : {R : Type 0} (s : Store R) → SoundStore (contents s) s.agreed s.waiting
+sound_of s = sound_store (handed s).now s.agreed s.waiting s.good
 
 pub state_empty : (bs : List ℕ) → state_of (empty bs) ≡ empty_line (places_in bs)
 unfolding state_of

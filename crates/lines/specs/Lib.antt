@@ -1,9 +1,7 @@
-pub mod FirstComes
 pub mod Lines
 pub mod Offers
 pub mod Orders
 pub mod Places
 pub mod StoreLaws
 pub mod Stores
-pub mod Turns
 pub mod Views

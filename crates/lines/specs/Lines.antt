@@ -24,7 +24,8 @@
 --   message_number   the agreed message of a number
 --   fetch_answer     what fetching answers
 --   after_fetch      what the buffer holds after a fetch
-use Rattle.std.specs.Prelude.{◌≡◌, ℕ, zero, suc, ◌+◌, ◌-◌, ◌<◌, ◌≤◌, Bool, true, if◌then◌else◌, List, [], ◌∷◌, ◌++◌, length, take, drop, Ok, Err, Result, ◌==◌, nat_le, nat_lt, slice_index_or}
+--   KeepsAgreed      what could be fetched is fetched the same afterwards
+use Rattle.std.specs.Prelude.{◌≡◌, ℕ, zero, suc, ◌+◌, ◌-◌, ◌<◌, ◌≤◌, Bool, true, if◌then◌else◌, List, [], ◌∷◌, ◌++◌, length, take, drop, Ok, Err, Result, OnOk, ◌==◌, nat_le, nat_lt, slice_index_or}
 use Rattle.limits.specs.Limits.{most_suites, most_held, longest_message, outside}
 use Rattle.refusals.specs.declared.Refusal.{Refusal}
 use Rattle.refusals.specs.declared.Refusal.TheVariants.{MemorySize, NoSuchSlot, LineFull, NothingWaiting, MessageLength, NoSuchMessage}
@@ -166,3 +167,11 @@ fetch_answer m k room = fetch_check m.limit (length m.agreed) k (length (message
 abbrev pub after_fetch : Result ℕ Refusal → List ℕ → List ℕ → List ℕ
 after_fetch (Ok n) message buffer = message ++ drop n buffer
 after_fetch (Err _) message buffer = buffer
+
+-- ---- what is agreed stays
+
+-- what could be fetched is fetched the same afterwards: the same message under its number, into buffers of the same lengths
+abbrev pub KeepsAgreed : LineState → LineState → Type 0
+KeepsAgreed before after =
+    (k room : ℕ)
+    → OnOk (fetch_answer before k room) ((fetch_answer after k room ≡ fetch_answer before k room) × (message_number after k ≡ message_number before k))

@@ -1,4 +1,4 @@
--- The law of a line, of every line over the store: from what always holds of the bytes and the two counts.
+-- The law of a line, of every store: from what always holds of the bytes and the two counts.
 --
 --   length_order, length_row              how many places have an order, and how much stands in them
 --   lane_fits, lane_empty, lanes_long     what holds of the lanes of a queue of sound messages

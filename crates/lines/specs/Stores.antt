@@ -7,7 +7,7 @@
 --   Stored         what a store means
 --   stored         what the bytes and the two counts mean
 --   empty          an empty store
---   state_of       what a line over such a store means
+--   state_of       what such a store means, as a line
 --   stored_offer   after an offer
 --   stored_settle  after a message of the queue was settled
 --   FirstOfSuite   none before it in the queue is for its suite
@@ -56,7 +56,7 @@ stored bs agreed waiting = record {
 abbrev pub empty : List ℕ → Stored
 empty bs = record { agreed = []; queue = []; limit = places_in bs }
 
--- what a line over such a store means
+-- what such a store means, as a line
 unfoldable pub state_of : Stored → LineState
 state_of s = record { agreed = map (λ o. o.message) s.agreed; waiting = λ u. lane u s.queue; limit = s.limit }
 

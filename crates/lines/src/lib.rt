@@ -5,6 +5,6 @@ pub mod first_come;
 pub mod line;
 mod offer;
 mod places;
-mod store;
+pub mod store;
 mod suite;
 pub mod turn;

@@ -1,6 +1,6 @@
 // What every line shows. Whatever handles a line is written and proved once, over this trait.
 ghost use Rattle.std.specs.Prelude.{◌≡◌, OnErr, length};
-ghost use Rattle.lines.specs.Lines.{LineState, Lawful, offer_answer, after_offer, settle_answer, Settles, count_answer, fetch_answer, message_number, after_fetch};
+ghost use Rattle.lines.specs.Lines.{LineState, Lawful, offer_answer, after_offer, settle_answer, Settles, count_answer, fetch_answer, message_number, after_fetch, KeepsAgreed};
 
 use refusals::Refusal;
 
@@ -14,6 +14,7 @@ pub trait Line {
         ensures answer { result ≡ offer_answer (state self.old) suite message.now }
         ensures line { state self.new ≡ after_offer result (state self.old) suite message.now }
         ensures same { OnErr result (self.new ≡ self.old) }
+        ensures kept { KeepsAgreed (state self.old) (state self.new) }
         ensures law { Lawful (state self.new) };
 
     /// Moves the first message of one waiting list to the end of the agreed list. The line chooses which.
@@ -21,6 +22,7 @@ pub trait Line {
         ensures answer { result ≡ settle_answer (state self.old) }
         ensures choice { Settles result (state self.old) (state self.new) }
         ensures same { OnErr result (self.new ≡ self.old) }
+        ensures kept { KeepsAgreed (state self.old) (state self.new) }
         ensures law { Lawful (state self.new) };
 
     /// How many messages are agreed.

@@ -46,6 +46,8 @@ returns c = record {
   buffer_too_short = refl;
   message_zero = refl;
   not_agreed_yet = refl;
+  never_lost = λ kept. let gone = (kept 1 1).0 in absurd cc;
+  never_another = λ kept. let other = (kept 1 1).1 in absurd cc;
   no_place = refl;
   one_place = refl;
   still_one = refl;

@@ -4,4 +4,4 @@ use Rattle.lines.specs.StoreLaws.{agreed_count}
 use Rattle.lines.proofs.store.Store.agreed.Goals as goal
 
 pub returns-clause-line : goal.returns-clause-line
-returns-clause-line c = sym (agreed_count _ _ _ (sound_of c.args.self.now))
+returns-clause-line g c = sym (agreed_count _ _ _ (sound_of c.args.self.now))

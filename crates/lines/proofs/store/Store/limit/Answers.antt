@@ -3,4 +3,4 @@ use Rattle.lines.proofs.store.Store.limit.Goals as goal
 
 pub returns-clause-line : goal.returns-clause-line
 unfolding stored state_of
-returns-clause-line c = c.count.ensures
+returns-clause-line g c = c.count.ensures

@@ -7,9 +7,9 @@ use Rattle.lines.proofs.store.Store.message.Goals as goal
 
 pub returns : goal.returns
 unfolding stored
-returns c =
+returns g c =
     let s = c.args.self.now in
-    let bs = s.places.bytes.now in
+    let bs = s.bytes.now in
     let k = c.args.number - 1 in
     let there = get_or-take s.agreed (row bs) k nothing (omega arith) in
     c.message_of.ensures

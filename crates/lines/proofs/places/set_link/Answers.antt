@@ -1,19 +1,18 @@
-use Rattle.std.proofs.Common.{refl, ap, ◌∙◌}
+use Rattle.std.proofs.Common.{ap, ◌∙◌}
 use Rattle.lines.proofs.Changes.{range_is, range_written, range_changed}
 use Rattle.lines.specs.Places.{link_in, offered_in}
-use Rattle.lines.proofs.places.Places.set_message.Goals as goal
+use Rattle.lines.proofs.places.set_link.Goals as goal
 
 pub returns : goal.returns
 returns c =
-    let bs = c.args.self.now.bytes.now in
+    let bs = c.args.bytes.now in
     let there = c.requires in
     let extent = c.extent-extent.ensures in
-    let long = c.put_message.auto.cell in
+    let long = c.put_link.auto.cell in
     let before = range_is bs _ c.args.place _ _ there extent.start extent.end long in
     let after = range_written bs _ c.args.place _ _ there extent.start extent.end long in
     record {
       changed = range_changed bs _ c.args.place _ _ there extent.start extent.end long;
-      memory = refl;
-      link = ap link_in after ∙ c.put_message.ensures.link ∙ ap link_in before;
-      message = ap offered_in after ∙ c.put_message.ensures.message;
+      link = ap link_in after ∙ c.put_link.ensures.link;
+      message = ap offered_in after ∙ c.put_link.ensures.message ∙ ap offered_in before;
     }
