@@ -39,17 +39,17 @@ fn main() -> ExitCode {
         .skip(1)
         .map(|argument| argument.to_string_lossy().into_owned())
         .collect();
-    let Some(task) = task(&arguments) else {
-        eprintln!("usage: oracle message-tool | line-tool");
-        eprintln!("       oracle generate-messages | generate-lines SEED CASES");
-        eprintln!("       oracle generate-full-line");
-        return ExitCode::from(2);
-    };
-    match perform(task) {
-        Ok(()) => ExitCode::SUCCESS,
-        Err(error) => {
+    match task(&arguments).map(perform) {
+        Some(Ok(())) => ExitCode::SUCCESS,
+        Some(Err(error)) => {
             eprintln!("oracle: {error}");
             ExitCode::FAILURE
+        }
+        None => {
+            eprintln!("usage: oracle message-tool | line-tool");
+            eprintln!("       oracle generate-messages | generate-lines SEED CASES");
+            eprintln!("       oracle generate-full-line");
+            ExitCode::from(2)
         }
     }
 }

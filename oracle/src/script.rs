@@ -67,14 +67,15 @@ fn answer<T: Tool>(tool: &mut T, line: &[u8]) -> String {
         return String::new();
     }
     let fields: Vec<&[u8]> = line.split(|byte| *byte == b' ').collect();
-    let Some(form) = form_of::<T>(fields[0]) else {
-        return "error: unknown command\n".to_string();
-    };
-    let Some(command) = tool.command(&fields) else {
-        return format!("error: expected {form}\n");
-    };
-    tool.meet(command)
-        .unwrap_or_else(|words| format!("error: {words}\n"))
+    match form_of::<T>(fields[0]) {
+        None => "error: unknown command\n".to_string(),
+        Some(form) => match tool.command(&fields) {
+            None => format!("error: expected {form}\n"),
+            Some(command) => tool
+                .meet(command)
+                .unwrap_or_else(|words| format!("error: {words}\n")),
+        },
+    }
 }
 
 /// The form of the lines that begin with this field.

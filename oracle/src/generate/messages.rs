@@ -343,7 +343,7 @@ impl Stream {
             self.change_kind(Some(SettingKind::Link));
         }
         let writes = damage.writes(&mut self.random);
-        if writes.is_some_and(|writes| writes > self.session.nodes.len()) {
+        if writes > Some(self.session.nodes.len()) {
             self.change_session(writes);
         }
         let described = self.good_move(writes);
