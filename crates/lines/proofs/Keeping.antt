@@ -3,7 +3,7 @@
 use Rattle.std.proofs.Common.{◌≡◌, ℕ, ◌-◌, Bool, true, false, cond, List, [], ◌++◌, length, take, get_or, Ok, Err, Result, nat_lt, refl, ap, sym, ◌∙◌, arith, length-append}
 use Rattle.limits.proofs.Ranges.{not_outside, not_outside_from}
 use Rattle.limits.specs.Limits.{outside}
-use Rattle.lines.specs.Lines.{LineState, unusable, offered, after_offer, Serves, fetch_answer, message_number, KeepsAgreed}
+use Rattle.lines.specs.Lines.{LineState, unusable, after_offer, Settles, fetch_answer, message_number, KeepsAgreed}
 use Rattle.refusals.specs.declared.Refusal.{Refusal}
 use Rattle.refusals.specs.declared.Refusal.TheVariants.{MemorySize, NoSuchMessage}
 use Rattle.std.proofs.Math.ListN.{get_or-append}
@@ -23,7 +23,7 @@ module _ (m m' : LineState) (more : List (List ℕ)) (limit : m'.limit ≡ m.lim
         let there = not_outside (length m.agreed) k inside in
         not_outside_from (length m'.agreed) k there.0 (omega (arith, ap length agreed, length-append m.agreed more))
 
-  pub keeps_more : KeepsAgreed m m'
+  keeps_more : KeepsAgreed m m'
   keeps_more k room = by (unusable m.limit) (outside (length m.agreed) k) (nat_lt room (length (message_number m k))) refl refl refl
     where
       -- what fetching answers, by the three tests
@@ -46,13 +46,16 @@ module _ (m m' : LineState) (more : List (List ℕ)) (limit : m'.limit ≡ m.lim
             same,
           )
 
-pub keeps_same : (m : LineState) → KeepsAgreed m m
-keeps_same m = keeps_more m m [] refl (sym (append-nil m.agreed))
+keeps_same : (m m' : LineState) → m' ≡ m → KeepsAgreed m m'
+keeps_same m m' same = keeps_more m m' [] (ap (λ n. n.limit) same) (ap (λ n. n.agreed) same ∙ sym (append-nil m.agreed))
 
-pub keeps_offer : (r : Result (Unit {0}) Refusal) (m : LineState) (suite : ℕ) (message : List ℕ) → KeepsAgreed m (after_offer r m suite message)
-keeps_offer (Ok _) m suite message = keeps_more m (offered m suite message) [] refl (sym (append-nil m.agreed))
-keeps_offer (Err _) m suite message = keeps_same m
+pub keeps_offer : (r : Result (Unit {0}) Refusal) (m m' : LineState) (suite : ℕ) (message : List ℕ) →
+    m' ≡ after_offer r m suite message → KeepsAgreed m m'
+keeps_offer (Ok _) m m' suite message is =
+    keeps_more m m' [] (ap (λ n. n.limit) is) (ap (λ n. n.agreed) is ∙ sym (append-nil m.agreed))
+keeps_offer (Err _) m m' suite message is = keeps_same m m' is
 
-pub keeps_serves : (m m' : LineState) (suite : ℕ) → Serves m m' suite → KeepsAgreed m m'
-keeps_serves m m' suite served =
+pub keeps_settle : (r : Result (Unit {0}) Refusal) (m m' : LineState) → Settles r m m' → KeepsAgreed m m'
+keeps_settle (Ok _) m m' (suite, served) =
     keeps_more m m' (take 1 (m.waiting suite)) (ap (λ n. n.limit) served.after_it) (ap (λ n. n.agreed) served.after_it)
+keeps_settle (Err _) m m' same = keeps_same m m' same

@@ -31,7 +31,7 @@ impl<'a> FirstCome<'a> {
     }
 }
 
-#[tactic(auto, using(crate::proofs::Meanings::lawful_store, crate::proofs::Keeping::keeps_same))]
+#[tactic(auto, using(crate::proofs::Meanings::lawful_store, crate::proofs::Keeping::keeps_offer, crate::proofs::Keeping::keeps_settle))]
 impl<'a> Line for FirstCome<'a> {
     ghost use Rattle.lines.specs.Views.{handed, contents, line_of, arrivals_of};
 

@@ -3,7 +3,7 @@
 ghost use Rattle.std.specs.Prelude.{◌≡◌, ◌+◌, ◌<◌, ◌≤◌, [], ◌∷◌, ◌++◌, length, if◌then◌else◌, Ok, Err, OnOk, OnErr, slice_index, slice_index_or};
 ghost use Rattle.limits.specs.Limits.{most_suites, longest_message};
 ghost use Rattle.refusals.specs.declared.Refusal.TheVariants.{MemorySize};
-ghost use Rattle.lines.specs.Lines.{waiting_count, held, empty_line, Serves, unusable, offer_check, offer_answer, after_offer, settle_answer, count_answer, fetch_answer, message_number, after_fetch, KeepsAgreed};
+ghost use Rattle.lines.specs.Lines.{waiting_count, held, empty_line, Serves, unusable, offer_check, offer_answer, after_offer, settle_answer, count_answer, fetch_answer, message_number, after_fetch};
 ghost use Rattle.lines.specs.Orders.{queue_after_offer, arrivals_after_offer, ServesHead};
 ghost use Rattle.lines.specs.Places.{cell, offered_in, places_in, places_used, order, row, rest};
 ghost use Rattle.lines.specs.Stores.{empty, nothing, Good, FirstOfSuite};
@@ -134,7 +134,6 @@ impl<'a, R> Store<'a, R> {
         ensures answer { result ≡ offer_answer (line_of self.old) suite message.now }
         ensures line { line_of self.new ≡ after_offer result (line_of self.old) suite message.now }
         ensures same { OnErr result (self.new ≡ self.old) }
-        ensures kept { KeepsAgreed (line_of self.old) (line_of self.new) }
         ensures order { (contents self.new).queue ≡ queue_after_offer result (contents self.old).queue suite message.now }
         ensures arrivals { arrivals_of self.new ≡ arrivals_after_offer result (arrivals_of self.old) message.now }
         ensures rule { self.new.rule ≡ self.old.rule }
@@ -168,7 +167,6 @@ impl<'a, R> Store<'a, R> {
         ensures choice { Serves (line_of self.old) (line_of self.new) (slice_index_or (contents self.old).queue k nothing).suite }
         ensures agreed { (line_of self.new).agreed ≡ (line_of self.old).agreed ++ (slice_index_or (contents self.old).queue k nothing).message ∷ [] }
         ensures order { (contents self.new).queue ≡ remove (contents self.old).queue k }
-        ensures kept { KeepsAgreed (line_of self.old) (line_of self.new) }
         ensures rule { self.new.rule ≡ self.old.rule }
         ensures memory { (handed self.new).ghost_name ≡ (handed self.old).ghost_name }
         ensures beyond { rest (handed self.new).now ≡ rest (handed self.old).now }
@@ -184,7 +182,6 @@ impl<'a, R> Store<'a, R> {
         ensures choice { Serves (line_of self.old) (line_of self.new) (slice_index_or (contents self.old).queue 0 nothing).suite }
         ensures order { ServesHead (contents self.old).queue (contents self.new).queue (line_of self.old) (line_of self.new) }
         ensures arrivals { arrivals_of self.new ≡ arrivals_of self.old }
-        ensures kept { KeepsAgreed (line_of self.old) (line_of self.new) }
         ensures rule { self.new.rule ≡ self.old.rule }
         ensures memory { (handed self.new).ghost_name ≡ (handed self.old).ghost_name }
         ensures beyond { rest (handed self.new).now ≡ rest (handed self.old).now }

@@ -58,7 +58,7 @@ impl<'a> Turn<'a> {
     }
 }
 
-#[tactic(auto, using(crate::proofs::Meanings::lawful_store, crate::proofs::Keeping::keeps_same))]
+#[tactic(auto, using(crate::proofs::Meanings::lawful_store, crate::proofs::Keeping::keeps_offer, crate::proofs::Keeping::keeps_settle))]
 impl<'a> Line for Turn<'a> {
     ghost use Rattle.lines.specs.Views.{handed, contents, line_of, turn_of};
 

@@ -1,12 +1,10 @@
-use Rattle.std.proofs.Common.{◌≡◌, ◌+◌, Ok, get_or, sym, ap, ◌∙◌, subst}
+use Rattle.std.proofs.Common.{◌≡◌, ◌+◌, Ok, get_or, ap, ◌∙◌}
 use Rattle.lines.proofs.Meanings.{arrivals_more, state_offer}
 use Rattle.lines.proofs.Storing.{offered_good, offered_means}
 use Rattle.lines.specs.Orders.{arrivals}
 use Rattle.lines.specs.Places.{order}
 use Rattle.lines.specs.Stores.{Good, stored, state_of, stored_offer}
-use Rattle.lines.specs.Lines.{KeepsAgreed}
-use Rattle.lines.specs.Views.{contents, line_of}
-use Rattle.lines.proofs.Keeping.{keeps_offer}
+use Rattle.lines.specs.Views.{contents}
 use Rattle.lines.proofs.store.Store.put.Given.{Over}
 use Rattle.lines.proofs.store.Store.put.Goals as goal
 use Rattle.lines.proofs.store.Store.put.Goals.{After-set_message}
@@ -46,9 +44,3 @@ unfolding state_of
 returns-clause-arrivals g c =
     ap (λ t. arrivals (state_of t) t.queue) (means g (goal.at.returns-clause-arrivals g c).After-set_message)
     ∙ arrivals_more (contents c.args.self.now) _
-
-pub returns-clause-kept : goal.returns-clause-kept
-returns-clause-kept g c =
-    let m = line_of c.args.self.now in
-    let is = ap state_of (means g (goal.at.returns-clause-kept g c).After-set_message) ∙ state_offer (contents c.args.self.now) c.args.suite c.args.message.now in
-    subst (KeepsAgreed m) (sym is) (keeps_offer (Ok tt) m c.args.suite c.args.message.now)

@@ -1,5 +1,4 @@
 use Rattle.std.proofs.Common.{◌≡◌, ◌+◌, ◌-◌, get_or, sym, ap, ◌∙◌, subst}
-use Rattle.lines.proofs.Keeping.{keeps_serves}
 use Rattle.lines.proofs.Meanings.{sound_of, agreed_settle, serves}
 use Rattle.lines.proofs.Storing.{settled_good, settled_means}
 use Rattle.lines.specs.Lines.{Serves}
@@ -24,20 +23,11 @@ means g c =
 pub invariant_of-self : goal.invariant_of-self
 invariant_of-self g c = record { good = good g c }
 
--- it is the first of its suite, which is served
-served : (g : Over) (c : After-bring g) →
-    Serves (line_of c.args.self.now) (state_of (stored c.bring.new.bytes (c.args.self.now.agreed + 1) (c.args.self.now.waiting - 1)))
-    (get_or (contents c.args.self.now).queue c.args.k nothing).suite
-served g c =
-    let s = c.args.self.now in
-    subst (λ t. Serves (line_of s) (state_of t) (get_or (contents s).queue c.args.k nothing).suite) (sym (means g c))
-    (serves (contents s) s.agreed s.waiting c.args.k (sound_of s) c.requires.k_lt_waiting c.requires.first_of_suite)
-
 pub returns-clause-choice : goal.returns-clause-choice
-returns-clause-choice g c = served g (goal.at.returns-clause-choice g c).After-bring
-
-pub returns-clause-kept : goal.returns-clause-kept
-returns-clause-kept g c = keeps_serves _ _ _ (served g (goal.at.returns-clause-kept g c).After-bring)
+returns-clause-choice g c =
+    let s = c.args.self.now in
+    subst (λ t. Serves (line_of s) (state_of t) (get_or (contents s).queue c.args.k nothing).suite) (sym (means g (goal.at.returns-clause-choice g c).After-bring))
+    (serves (contents s) s.agreed s.waiting c.args.k (sound_of s) c.requires.k_lt_waiting c.requires.first_of_suite)
 
 pub returns-clause-agreed : goal.returns-clause-agreed
 returns-clause-agreed g c =
