@@ -1,2 +1,6 @@
+mod ComputedRuns
+mod MadeStarts
+mod NotLawful
 mod Touched
 mod TwoOffers
+mod WrongRuns

@@ -2,7 +2,7 @@
 --
 --   zeros        so many zero bytes
 --   Examples     the examples
-use Rattle.std.specs.Prelude.{◌≡◌, ℕ, List, [], ◌∷◌, ◌++◌, map, replicate}
+use Rattle.std.specs.Prelude.{◌≡◌, ℕ, List, [], ◌∷◌, map, replicate}
 use Rattle.limits.specs.Limits.{longest_message}
 use Rattle.messages.specs.Layout.{message_length}
 use Rattle.std.specs.List.{range_with_len}
@@ -16,8 +16,6 @@ zeros n = replicate n 0
 
 -- the exact list, the hash with a seed, a node's positions in a Bloom summary, and two lengths
 pub record Examples : Type 0 where
-  -- 7 and 9 as an exact list: two numbers, 7, 9, and 240 zeros
-  pub seven_and_nine : packed_exact (7 ∷ 9 ∷ []) ≡ 2 ∷ (zeros 7 ++ (7 ∷ (zeros 7 ++ (9 ∷ zeros 240))))
   -- no numbers as an exact list: zeros
   pub no_numbers : packed_exact [] ≡ zeros 257
   -- node 7: its hash with seed 0, its hash with that as the seed, and its twelve positions

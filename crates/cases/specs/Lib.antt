@@ -1,4 +1,6 @@
 pub mod Examples
 pub mod LineExamples
+pub mod SessionCases
 pub mod Widest
+pub mod WrongRules
 pub mod Zeros

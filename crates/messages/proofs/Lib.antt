@@ -1,4 +1,4 @@
 mod Whole
-mod Judging
+pub mod Judging
 mod Faultlessness
-mod RoundTrip
+pub mod RoundTrip

@@ -6,7 +6,6 @@ use Rattle.cases.proofs.examples_stand.Goals as goal
 pub returns : goal.returns
 unfolding position murmur2 finished taken_in mixed word xor_shifted times
 returns c = record {
-  seven_and_nine = refl;
   no_numbers = refl;
   first_hash = refl;
   second_hash = refl;

@@ -1,0 +1,13 @@
+pub mod Entering
+pub mod Finding
+pub mod KindLaws
+pub mod LineFacts
+pub mod Outcomes
+pub mod Parts
+pub mod Placing
+pub mod Reading
+pub mod Shares
+pub mod Spares
+pub mod Standing
+pub mod Versions
+pub mod Writing

@@ -1,0 +1,11 @@
+pub mod States
+pub mod Versions
+pub mod Shares
+pub mod Slots
+pub mod Commits
+pub mod Takes
+pub mod Making
+pub mod Calls
+pub mod Promises
+pub mod Shapes
+pub mod Slotted
