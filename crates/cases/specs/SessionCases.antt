@@ -1,6 +1,6 @@
 -- Worked cases of a session, as one list: each is a session just made, over an empty line, and the calls that are then made, with the
--- answers that the rules give, the first call first. A setting is a colour, and the summary the exact list. The line is first-come, so
--- messages are settled in the order of offering, and each settle is listed with the suite that it serves.
+-- answers that the rules give, the first call first. A setting is a colour, and the summary the exact list. Messages are settled as a
+-- first-come line would, in the order of offering, and each settle is listed with the suite that it serves.
 --
 --   start_of                a session just made over an empty line
 --   two_suites              two suites with the nodes 7 and 9, over a line of 32 places
@@ -24,10 +24,10 @@
 use Rattle.std.specs.Prelude.{◌≡◌, ℕ, ◌+◌, ◌*◌, List, [], ◌∷◌, ◌++◌, map, reverse, length, take, replicate}
 use Rattle.std.specs.List.{range_with_len, AllByRecursion}
 use Rattle.cases.specs.Examples.{zeros}
-use Rattle.history.specs.Events.{began, read, wrote, committed, abandoned, collected, Event, at, settled, took, declined}
+use Rattle.history.specs.Events.{began, read, wrote, closed, abandoned, collected, Event, at, settled, took, declined}
 use Rattle.history.specs.Runs.{Run, Made}
 use Rattle.history.specs.declared.call.Call.TheVariants.{Read, Commit as CommitOf, Collect, Settle}
-use Rattle.history.specs.declared.call.SlotNumber.{SlotNumber}
+use Rattle.history.specs.declared.call.SuiteSlot.{SuiteSlot}
 use Rattle.limits.specs.Limits.{slots_each, most_writes}
 use Rattle.lines.specs.Lines.{empty_line}
 use Rattle.refusals.specs.declared.Refusal.TheVariants.{SlotState, MoveFull, LineFull, NothingWaiting, NotRuled}
@@ -52,7 +52,7 @@ start_of suites nodes limit = record {
 abbrev pub two_suites : World Colour
 two_suites = start_of 2 (7 ∷ 9 ∷ []) 32
 
-abbrev pub slot : ℕ → ℕ → SlotNumber
+abbrev pub slot : ℕ → ℕ → SuiteSlot
 slot u s = record { suite = u; slot = s }
 
 -- suite u takes a message, and commits it under the stamp t
@@ -80,7 +80,7 @@ one_move = record {
       at 1 1 (began 0)
       ∷ at 1 1 (read 7 starting_colour)
       ∷ at 1 1 (wrote 7 (colour_of 1 0xffffffff 0))
-      ∷ at 1 1 (committed Sent)
+      ∷ at 1 1 (closed Sent)
       ∷ settled 1
       ∷ commits 2 1
       ∷ declined (Collect (slot 1 1)) NotRuled
@@ -102,8 +102,8 @@ crossing = record {
       ∷ at 1 1 (wrote 9 (lifted 1))
       ∷ at 2 1 (read 9 starting_colour)
       ∷ at 2 1 (wrote 7 (lifted 2))
-      ∷ at 1 1 (committed Sent)
-      ∷ at 2 1 (committed Sent)
+      ∷ at 1 1 (closed Sent)
+      ∷ at 2 1 (closed Sent)
       ∷ settled 1
       ∷ settled 2
       ∷ commits 1 1
@@ -124,8 +124,8 @@ blind_writes = record {
       ∷ at 2 1 (began 0)
       ∷ at 1 1 (wrote 7 (lifted 1))
       ∷ at 2 1 (wrote 7 (lifted 2))
-      ∷ at 1 1 (committed Sent)
-      ∷ at 2 1 (committed Sent)
+      ∷ at 1 1 (closed Sent)
+      ∷ at 2 1 (closed Sent)
       ∷ settled 1
       ∷ settled 2
       ∷ commits 1 1
@@ -143,7 +143,7 @@ blind_writes = record {
 
 -- a move of suite 1 that writes node 7 is committed at suite 2
 abbrev pub landing : List (Event Colour)
-landing = at 1 1 (began 0) ∷ at 1 1 (wrote 7 (lifted 1)) ∷ at 1 1 (committed Sent) ∷ settled 1 ∷ commits 2 1 ∷ []
+landing = at 1 1 (began 0) ∷ at 1 1 (wrote 7 (lifted 1)) ∷ at 1 1 (closed Sent) ∷ settled 1 ∷ commits 2 1 ∷ []
 
 -- a move that is open then reads as before, and if it wrote nothing, its commit gives its snapshot
 abbrev pub read_on : Case
@@ -154,7 +154,7 @@ read_on = record {
       ∷ at 2 1 (read 7 starting_colour)
       ∷ landing
       ++ at 2 1 (read 7 starting_colour)
-      ∷ at 2 1 (committed (ReadOnly 0))
+      ∷ at 2 1 (closed (ReadOnly 0))
       ∷ [];
 }
 
@@ -168,7 +168,7 @@ too_late = record {
       ∷ landing
       ++ at 2 1 (read 7 starting_colour)
       ∷ at 2 1 (wrote 9 (lifted 2))
-      ∷ at 2 1 (committed (ClashAtHome 7))
+      ∷ at 2 1 (closed (ClashAtHome 7))
       ∷ declined Settle NothingWaiting
       ∷ [];
 }
@@ -179,7 +179,7 @@ opened_then_changed t =
     at 1 (t + 1) (began t)
     ∷ at 2 (t + 1) (began t)
     ∷ at 2 (t + 1) (wrote 7 (lifted (t + 1)))
-    ∷ at 2 (t + 1) (committed Sent)
+    ∷ at 2 (t + 1) (closed Sent)
     ∷ settled 2
     ∷ commits 1 (t + 1)
     ∷ commits 2 (t + 1)
@@ -196,7 +196,7 @@ four_snapshots = record {
       ∷ at 1 2 (read 7 (lifted 1))
       ∷ at 1 3 (read 7 (lifted 2))
       ∷ at 1 4 (read 7 (lifted 3))
-      ∷ at 1 1 (committed (ReadOnly 0))
+      ∷ at 1 1 (closed (ReadOnly 0))
       ∷ at 1 1 (began 4)
       ∷ at 1 1 (read 7 (lifted 4))
       ∷ [])));
@@ -226,10 +226,10 @@ full_line = record {
       ∷ at 1 2 (wrote 9 (lifted 2))
       ∷ at 1 3 (began 0)
       ∷ at 1 3 (read 7 starting_colour)
-      ∷ at 1 1 (committed Sent)
+      ∷ at 1 1 (closed Sent)
       ∷ declined (CommitOf (slot 1 2)) LineFull
       ∷ at 1 2 (read 9 (lifted 2))
-      ∷ at 1 3 (committed (ReadOnly 0))
+      ∷ at 1 3 (closed (ReadOnly 0))
       ∷ settled 1
       ∷ declined (CommitOf (slot 1 2)) LineFull
       ∷ at 1 2 abandoned

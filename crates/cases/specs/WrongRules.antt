@@ -23,7 +23,7 @@
 use Rattle.std.specs.Prelude.{◌≡◌, ℕ, ◌+◌, List, [], ◌∷◌, ◌++◌, flat_map, length, reverse, take, nat_le, Result, ◌↔◌}
 use Rattle.std.specs.List.{range_with_len, list_all, position_or_len}
 use Rattle.cases.specs.SessionCases.{start_of, two_suites, slot, commits, lifted, Case, crossing, landing}
-use Rattle.history.specs.Events.{began, read, wrote, committed, collected, Event, at, settled, took, declined, call_of, answer_of}
+use Rattle.history.specs.Events.{began, read, wrote, closed, collected, Event, at, settled, took, declined, call_of, answer_of}
 use Rattle.history.specs.Laws.{Lawful}
 use Rattle.history.specs.Runs.{told, answer, Leaves, Run, Made}
 use Rattle.history.specs.declared.call.Answer.{Answer}
@@ -75,12 +75,12 @@ at_snapshot snapshot state = state
 
 -- the answers, but a read answers as if the snapshot of its move was the stamp of the node's newest version
 abbrev pub newest_answer : World Colour → Call Colour → Result (Answer Colour) Refusal
-newest_answer w (Read place n) = told Setting (at_slot w place.suite place.slot read_newest)
+newest_answer w (Read of_move n) = told Setting (at_slot w of_move.suite of_move.slot read_newest)
   where
     read_newest : Share Colour → Result Colour Refusal
     read_newest share =
         let nodes = w.session.nodes in
-        read_in nodes share place.slot n (at_snapshot (newest_stamp (versions_of nodes share.places n)) (slot_of share place.slot))
+        read_in nodes share of_move.slot n (at_snapshot (newest_stamp (versions_of nodes share.places n)) (slot_of share of_move.slot))
 newest_answer w call = answer exact_list colours w call
 
 abbrev pub reads_newest : Rules
@@ -133,7 +133,7 @@ abbrev pub changed : ℕ → List (Event Colour)
 changed t =
     at 1 2 (began t)
     ∷ at 1 2 (wrote 7 (lifted (t + 1)))
-    ∷ at 1 2 (committed Sent)
+    ∷ at 1 2 (closed Sent)
     ∷ settled 1
     ∷ commits 1 (t + 1)
     ∷ at 1 2 (collected (Commit (t + 1)))

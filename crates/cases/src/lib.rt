@@ -6,6 +6,7 @@ ghost use Rattle.cases.specs.Examples.{Examples};
 ghost use Rattle.cases.specs.LineExamples.{LineExamples};
 ghost use Rattle.cases.specs.SessionCases.{SessionCases};
 
+pub mod each_kind;
 pub mod first_served;
 #[cfg(test)]
 mod line_tests;

@@ -2,7 +2,7 @@
 -- the calls read of a copy rests on the nodes among the reads alone.
 use Rattle.std.proofs.Common.{◌≡◌, ℕ, Bool, true, false, cond, eqb, List, [], ◌∷◌, map, Some, None, Option, unwrap_or, eqb-true, eq-eqb, ne_eqb, refl, sym, ap, ◌∙◌, subst, arith}
 use Rattle.history.specs.Copies.{done_on, ReadsOn}
-use Rattle.history.specs.Events.{Did, began, read, wrote, committed, abandoned, collected}
+use Rattle.history.specs.Events.{Did, began, read, wrote, closed, abandoned, collected}
 use Rattle.history.specs.Contents.{last_write}
 use Rattle.history.specs.Contents.{reads_of, writes_of}
 use Rattle.session.proofs.Entering.{entered_has, entered_keeps, Different_entered, own_with_write, nodes_with_write}
@@ -26,7 +26,7 @@ module _ {T : Type 0} where
   own_is_last (began snapshot ∷ ds) n = own_is_last ds n
   own_is_last (read m x ∷ ds) n = own_is_last ds n
   own_is_last (wrote m x ∷ ds) n = own_with_write (writes_of ds) m x n ∙ ap (cond (eqb m n) (Some x)) (own_is_last ds n)
-  own_is_last (committed answer ∷ ds) n = own_is_last ds n
+  own_is_last (closed answer ∷ ds) n = own_is_last ds n
   own_is_last (abandoned ∷ ds) n = own_is_last ds n
   own_is_last (collected outcome ∷ ds) n = own_is_last ds n
 
@@ -41,7 +41,7 @@ module _ {T : Type 0} where
           cond (eqb n m) x (done_on c ds n) ≡ unwrap_or (cond b (Some x) (last_write ds n)) (c n)
       go true same ih = cond-true (eqb n m) x (done_on c ds n) same
       go false same ih = cond-false (eqb n m) x (done_on c ds n) same ∙ ih
-  done_is c (committed answer ∷ ds) n = done_is c ds n
+  done_is c (closed answer ∷ ds) n = done_is c ds n
   done_is c (abandoned ∷ ds) n = done_is c ds n
   done_is c (collected outcome ∷ ds) n = done_is c ds n
 
@@ -59,7 +59,7 @@ module _ {T : Type 0} where
       go None same = same (entered_has T (reads_of ds) m)
       go (Some y) same = refl
   reads_carried c c' (wrote m x ∷ ds) reads alike = reads_carried c c' ds reads alike
-  reads_carried c c' (committed answer ∷ ds) reads alike = reads_carried c c' ds reads alike
+  reads_carried c c' (closed answer ∷ ds) reads alike = reads_carried c c' ds reads alike
   reads_carried c c' (abandoned ∷ ds) reads alike = reads_carried c c' ds reads alike
   reads_carried c c' (collected outcome ∷ ds) reads alike = reads_carried c c' ds reads alike
 
@@ -70,6 +70,6 @@ module _ {T : Type 0} where
   writes_different (read m x ∷ ds) = writes_different ds
   writes_different (wrote m x ∷ ds) =
       subst Different (sym (nodes_with_write (writes_of ds) m x)) (Different_entered {T = T} (map (λ w. w.node) (writes_of ds)) m None (writes_different ds))
-  writes_different (committed answer ∷ ds) = writes_different ds
+  writes_different (closed answer ∷ ds) = writes_different ds
   writes_different (abandoned ∷ ds) = writes_different ds
   writes_different (collected outcome ∷ ds) = writes_different ds

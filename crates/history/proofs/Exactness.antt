@@ -1,13 +1,12 @@
 -- A take rules a clash exactly if the message's summary names a node that was committed after its snapshot, and gives the first such node.
-use Rattle.std.proofs.Common.{◌≡◌, ℕ, ◌<◌, ◌≤◌, Bool, true, false, ltb, List, [], ◌∷◌, ◌++◌, length, Some, sym, ap, ◌∙◌, subst, append_assoc}
+use Rattle.std.proofs.Common.{◌≡◌, ℕ, ◌<◌, ◌≤◌, Bool, true, false, ltb, List, [], ◌∷◌, ◌++◌, length, Some, sym, ap, ◌∙◌, subst}
 use Rattle.std.proofs.lemmas.Bool.{ltb-true, lt-ltb, and_parts, and_from}
 use Rattle.std.proofs.lemmas.Option.{slice_get_within, get_or_from_slice_get}
 use Rattle.std.specs.Prelude.{slice_get, ◌↔◌}
 use Rattle.std.specs.List.{AllByRecursion, ContainsAt}
 use Rattle.history.proofs.Clashing.{test, clash_is, clash_from, written_from, written_above}
 use Rattle.session.proofs.Finding.{Found}
-use Rattle.history.proofs.Histories.{at_world, numbers_at, standing, rep, takes_by, same_replica, stamp_at}
-use Rattle.history.proofs.Joining.{run_split}
+use Rattle.history.proofs.Histories.{stood_at, nodes_at, next_event, numbers_at, rep, takes_by, same_replica, stamp_at}
 use Rattle.history.proofs.Replicas.{Replica, rules_on, replica}
 use Rattle.history.proofs.Ruling.{Rules, rules_if}
 use Rattle.history.proofs.Standing.{Standing}
@@ -15,7 +14,7 @@ use Rattle.history.specs.Contents.{reads_of}
 use Rattle.history.specs.Events.{Event, took}
 use Rattle.history.specs.Laws.{Moment, WrittenAfter, IsClash, state_of}
 use Rattle.history.specs.Moves.{Move, open_move, agreed, rulings, takes, committed_position}
-use Rattle.history.specs.Runs.{Step, Run, Made}
+use Rattle.history.specs.Runs.{Run, Made}
 use Rattle.messages.specs.Reading.{header_in, summary_in}
 use Rattle.number_bytes.specs.Bytes.{Number}
 use Rattle.session.proofs.KindLaws.{SettingLaws, SummaryLaws}
@@ -47,26 +46,17 @@ module _ {T : Type 0} (S : SummaryKind) (K : SettingKind T) (of_S : SummaryLaws 
     abbrev message : List ℕ
     message = next_message (share_of p.then u)
 
-    split_at : es ≡ more ++ took u ruling ∷ p.earlier
-    split_at = p.events ∙ ap (λ l. l ++ p.earlier) next ∙ append_assoc more (took u ruling ∷ []) p.earlier
+    abbrev stood_then : Standing S K p.then.session.nodes U p.earlier p.then
+    stood_then = stood_at S K of_S of_K start made es now run p
 
-    -- the take was the next event after the moment
-    taken : (after : World T) × Step S K p.then (took u ruling) after
-    taken =
-        let (v, (w, same, step), rest) = run_split S K p.then now (took u ruling ∷ []) more (subst (λ l. Run S K p.then l now) next p.after) in
-        (v, subst (λ x. Step S K x (took u ruling) v) same step)
+    abbrev same_nodes : p.then.session.nodes ≡ N
+    same_nodes = nodes_at S K of_S of_K start made es now run p
 
-    stood_then : Standing S K p.then.session.nodes U p.earlier p.then
-    stood_then = at_world S K of_S of_K start made p.earlier p.then (standing S K of_S of_K start made p.earlier p.then p.before)
-
-    same_nodes : p.then.session.nodes ≡ N
-    same_nodes = (standing S K of_S of_K start made p.earlier p.then p.before).nodes
-
-    numbers_then : AllByRecursion Number p.then.session.nodes
+    abbrev numbers_then : AllByRecursion Number p.then.session.nodes
     numbers_then = numbers_at S K of_S of_K start made p.then same_nodes
 
     rules : Rules S K of_S of_K U (agreed p.earlier) (rulings p.earlier) (open_move p.earlier) stood_then.pending (committed_position p.earlier) p.then stood_then.fits numbers_then u ruling
-    rules = rules_if S K of_S of_K U (agreed p.earlier) (rulings p.earlier) (open_move p.earlier) stood_then.pending (committed_position p.earlier) p.then stood_then.fits numbers_then u ruling taken.1.answered
+    rules = rules_if S K of_S of_K U (agreed p.earlier) (rulings p.earlier) (open_move p.earlier) stood_then.pending (committed_position p.earlier) p.then stood_then.fits numbers_then u ruling (next_event S K of_S of_K start made es now run p (took u ruling) more next).1.answered
 
     abbrev m : Move T
     m = rules.move

@@ -4,6 +4,7 @@ use Rattle.std.specs.Prelude.{slice_get, option_map, option_and_then}
 use Rattle.std.specs.List.{AllByRecursion, ContainsAt}
 use Rattle.history.proofs.Elements.{get_more}
 use Rattle.history.proofs.Fits.{settings, SuiteFits}
+use Rattle.history.proofs.Joining.{run_split}
 use Rattle.history.proofs.Prefixes.{agreed_more, takes_grow}
 use Rattle.history.proofs.ReplicaLaws.{copy_is}
 use Rattle.history.proofs.ReplicaSteps.{replica_more}
@@ -12,9 +13,9 @@ use Rattle.history.proofs.Standing.{Standing, next_standing}
 use Rattle.history.proofs.Starting.{start_standing}
 use Rattle.history.specs.Copies.{copy}
 use Rattle.history.specs.Events.{Event}
-use Rattle.history.specs.Laws.{There, state_of, newest_of}
+use Rattle.history.specs.Laws.{There, Moment, state_of, newest_of}
 use Rattle.history.specs.Moves.{Move, open_move, agreed, rulings, takes, committed_position, committed_move}
-use Rattle.history.specs.Runs.{Run, Made}
+use Rattle.history.specs.Runs.{Step, Run, Made}
 use Rattle.number_bytes.specs.Bytes.{Number}
 use Rattle.session.proofs.KindLaws.{SettingLaws, SummaryLaws}
 use Rattle.session.specs.Shares.{share_of}
@@ -121,3 +122,18 @@ module _ {T : Type 0} (S : SummaryKind) (K : SettingKind T) (of_S : SummaryLaws 
             ap (λ ns. option_map (λ b. b.1) (newest (versions_of ns (share_of then u).places n))) (standing earlier then before).nodes
             ∙ suite.newest_is n h
             ∙ ap (λ r. Some (r.newest n)) (same_replica (takes earlier u) suite.within)
+
+    -- ---- a moment
+
+    module _ (p : Moment S K start es now) where
+      pub stood_at : Standing S K p.then.session.nodes U p.earlier p.then
+      stood_at = at_world p.earlier p.then (standing p.earlier p.then p.before)
+
+      pub nodes_at : p.then.session.nodes ≡ N
+      nodes_at = (standing p.earlier p.then p.before).nodes
+
+      -- the event that comes next
+      pub next_event : (e : Event T) (more : List (Event T)) → p.later ≡ more ++ e ∷ [] → (after : World T) × Step S K p.then e after
+      next_event e more next =
+          let (v, (w, same, step), rest) = run_split S K p.then now (e ∷ []) more (subst (λ l. Run S K p.then l now) next p.after) in
+          (v, subst (λ x. Step S K x e v) same step)

@@ -10,7 +10,7 @@ use Rattle.history.specs.declared.call.Answer.TheVariants.{Began, Setting, Writt
 use Rattle.history.specs.declared.call.Answer.{Answer}
 use Rattle.history.specs.declared.call.Call.TheVariants.{Begin, Read, Write as WriteCall, Commit as CommitCall, Abandon, Collect, Settle, Take}
 use Rattle.history.specs.declared.call.Call.{Call}
-use Rattle.history.specs.declared.call.SlotNumber.{SlotNumber}
+use Rattle.history.specs.declared.call.SuiteSlot.{SuiteSlot}
 use Rattle.refusals.specs.declared.Refusal.{Refusal}
 use Rattle.lines.specs.Lines.{Serves}
 use Rattle.session.specs.Commits.{commit_answer}
@@ -66,7 +66,7 @@ module _ {T : Type 0} (S : SummaryKind) (K : SettingKind T) where
   answers_alike w v call u is shape same = by call is
     where
       -- a call at a slot of suite u, whose rule is alike in both worlds
-      at_u : {A : Type 0} (as_answer : A → Answer T) (place : SlotNumber) (rule rule' : Share T → Result A Refusal) →
+      at_u : {A : Type 0} (as_answer : A → Answer T) (place : SuiteSlot) (rule rule' : Share T → Result A Refusal) →
           rule ≡ rule' → Some place.suite ≡ Some u →
           told as_answer (at_slot w place.suite place.slot rule) ≡ told as_answer (at_slot v place.suite place.slot rule')
       at_u as_answer place rule rule' rules is =

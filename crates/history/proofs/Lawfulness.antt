@@ -5,7 +5,8 @@
 -- replica of as many moves as it has ruled on, each open move sees the replica of its snapshot, and the line carries the moves that counting
 -- says it does (Fits). A session just made fits (Starting), and every accepted call leaves what fits: those at a slot (Changing, SlotSteps,
 -- SlotCalls, WriteCalls, Sending), settle (Settling), take (Ruling, Applying, Taking). So all worlds of a history fit (Standing, Histories), and what
--- the law says is read off the replicas (Refusing, Clashing, Exactness, here). That suites have only the line in common is Isolating, and
+-- the law says is read off the replicas (Refusing, Clashing, Exactness, here). What a slot's state says of the moves that
+-- it sent (Owing, SentMoves, OwingSteps) gives what a collect gives (Collecting). That suites have only the line in common is Isolating, and
 -- that no call is stuck Stepping.
 use Rattle.std.proofs.Common.{◌≡◌, ℕ, suc, ◌+◌, ◌-◌, ◌<◌, ◌≤◌, cond, List, [], ◌∷◌, ◌++◌, length, get_or, Some, sym, refl, ap, ◌∙◌, subst, arith, append_assoc}
 use Rattle.std.proofs.ByRecursion.{All-get_or, All-weaker}
@@ -13,16 +14,19 @@ use Rattle.std.proofs.lemmas.Bool.{eq-eqb}
 use Rattle.std.proofs.lemmas.List.{length_push}
 use Rattle.std.specs.Prelude.{slice_get, option_map, unwrap_or}
 use Rattle.std.specs.List.{ContainsAt}
+use Rattle.history.proofs.Checking.{closes}
 use Rattle.history.proofs.Exactness.{exact}
 use Rattle.history.proofs.ContentLaws.{reads_carried}
 use Rattle.history.proofs.Elements.{get_there}
 use Rattle.history.proofs.Growing.{good_higher}
 use Rattle.history.proofs.Fits.{settings, GoodMove}
-use Rattle.history.proofs.Histories.{at_world, numbers_at, standing, stands, rep, copy_at, committed_is, committed_from, takes_by, get_agreed, same_replica, stamp_at, newest_at}
+use Rattle.history.proofs.Histories.{at_world, numbers_at, standing, stands, rep, copy_at, committed_is, committed_from, takes_by, get_agreed, same_replica, suite, stamp_at, newest_at}
 use Rattle.history.proofs.Isolating.{isolation}
 use Rattle.history.proofs.Joining.{run_split}
+use Rattle.history.proofs.Collecting.{collect_gives}
 use Rattle.history.proofs.Stepping.{next_step}
-use Rattle.history.proofs.Refusing.{never_missing, reads_only_if}
+use Rattle.history.proofs.Refusing.{never_missing}
+use Rattle.history.proofs.Closing.{closes_if}
 use Rattle.history.proofs.ReplicaLaws.{serial_reads}
 use Rattle.history.proofs.ReplicaSteps.{stamp_reached}
 use Rattle.history.proofs.Replicas.{Replica, rules_on, replica, commit_stamp}
@@ -31,12 +35,12 @@ use Rattle.history.proofs.SlotCalls.{read_gives}
 use Rattle.history.proofs.Standing.{Standing}
 use Rattle.history.specs.Contents.{last_write, reads_of}
 use Rattle.history.specs.Copies.{copy, ReadsOn}
-use Rattle.history.specs.Events.{read, committed, Event, at, took, declined}
-use Rattle.history.specs.Laws.{There, Moment, MessageOf, Lawful, Law, state_of, newest_of}
+use Rattle.history.specs.Events.{read, closed, collected, Event, at, took, declined}
+use Rattle.history.specs.Laws.{There, Collects, Moment, MessageOf, Lawful, Law, state_of, newest_of}
 use Rattle.history.specs.Moves.{Move, open_move, agreed, rulings, takes, committed_position, committed_move}
 use Rattle.history.specs.Runs.{Step, Run, Made}
 use Rattle.history.specs.declared.call.Call.TheVariants.{Read}
-use Rattle.history.specs.declared.call.SlotNumber.{SlotNumber}
+use Rattle.history.specs.declared.call.SuiteSlot.{SuiteSlot}
 use Rattle.lines.specs.Lines.{message_number}
 use Rattle.refusals.specs.declared.Refusal.TheVariants.{NoVersion}
 use Rattle.messages.specs.declared.fault.Fault.{Fault}
@@ -44,6 +48,7 @@ use Rattle.number_bytes.specs.Bytes.{Number}
 use Rattle.session.proofs.KindLaws.{SettingLaws, SummaryLaws}
 use Rattle.session.specs.States.{World}
 use Rattle.session.specs.declared.ruling.CommitAnswer.TheVariants.{ReadOnly}
+use Rattle.session.specs.declared.ruling.Outcome.{Outcome}
 use Rattle.session.specs.declared.ruling.Outcome.TheVariants.{Commit}
 use Rattle.session.specs.declared.ruling.Ruling.{Ruling}
 use Rattle.session.specs.declared.ruling.Ruling.TheVariants.{Void, Decided}
@@ -146,7 +151,7 @@ module _ {T : Type 0} (S : SummaryKind) (K : SettingKind T) (of_S : SummaryLaws 
       let void = rules.ruled in
       cc
 
-  no_missing : (earlier later : List (Event T)) (slot : SlotNumber) (n : ℕ) → es ≡ later ++ declined (Read slot n) NoVersion ∷ earlier → ⊥
+  no_missing : (earlier later : List (Event T)) (slot : SuiteSlot) (n : ℕ) → es ≡ later ++ declined (Read slot n) NoVersion ∷ earlier → ⊥
   no_missing earlier later slot n split =
       let e = declined (Read slot n) NoVersion in
       let h = happened e earlier later split in
@@ -180,7 +185,7 @@ module _ {T : Type 0} (S : SummaryKind) (K : SettingKind T) (of_S : SummaryLaws 
   )
 
   one_move : (earlier later : List (Event T)) (u t : ℕ) → es ≡ later ++ took u (Decided (Commit t)) ∷ earlier →
-      (committed_position es t ≡ Some (takes earlier u)) × (m : Move T) × (committed_move es t ≡ Some m)
+      (1 ≤ t) × (committed_position es t ≡ Some (takes earlier u)) × (m : Move T) × (committed_move es t ≡ Some m)
   one_move earlier later u t split =
       let e = took u (Decided (Commit t)) in
       let h = happened e earlier later split in
@@ -197,7 +202,11 @@ module _ {T : Type 0} (S : SummaryKind) (K : SettingKind T) (of_S : SummaryLaws 
       let is = get_agreed S K of_S of_K start made es now run (later ++ e ∷ []) earlier (past e earlier later split) k rules.move rules.is in
       let low = takes_by S K of_S of_K start made es now run later (e ∷ earlier) split u in
       let both = committed_is S K of_S of_K start made es now run u k t rules.move rules.there (omega (arith, low, one_more earlier u (Decided (Commit t)))) is ruled' in
-      (both.0, rules.move, both.1)
+      let next = commit_stamp S K N (r k) rules.move t ruled' in
+      (omega arith, both.0, rules.move, both.1)
+
+  counted : (p : Moment S K start es now) (u : ℕ) → There start u → (state_of p.then u).taken ≡ takes p.earlier u
+  counted p u there = (suite S K of_S of_K start made es now run p.later p.earlier p.events p.then p.before u there).taken
 
   stamps : (u t : ℕ) → There start u → 1 ≤ t → t ≤ (state_of now u).stamp → (m : Move T) × (committed_move es t ≡ Some m)
   stamps u t there low high =
@@ -229,23 +238,29 @@ module _ {T : Type 0} (S : SummaryKind) (K : SettingKind T) (of_S : SummaryLaws 
       ∙ ap Some (sym (copies_at u k n there (takes_by S K of_S of_K start made es now run p.later p.earlier p.events u)))
       ∙ ap (λ t. Some (copy K es t n)) (sym (stamp_at S K of_S of_K start made es now run p.later p.earlier p.events p.then p.before u there))
 
-  read_only : (earlier later : List (Event T)) (u s t : ℕ) → es ≡ later ++ at u s (committed (ReadOnly t)) ∷ earlier →
+  read_only : (earlier later : List (Event T)) (u s t : ℕ) → es ≡ later ++ at u s (closed (ReadOnly t)) ∷ earlier →
       (m : Move T) × (open_move earlier u s ≡ Some m) × (t ≡ m.snapshot) × ReadsOn (copy K es t) m.calls
   read_only earlier later u s t split =
-      let e = at u s (committed (ReadOnly t)) in
+      let e = at u s (closed (ReadOnly t)) in
       let h = happened e earlier later split in
       let s' = stood e earlier later split in
-      let only = reads_only_if S K U (agreed earlier) (rulings earlier) (open_move earlier) s'.pending (committed_position earlier) h.then s'.fits u s t h.step.answered in
+      let only = closes_if S K U (agreed earlier) (rulings earlier) (open_move earlier) s'.pending (committed_position earlier) h.then s'.fits u s (ReadOnly t) h.step.answered in
+      let same = only.fit.snapshot ∙ only.gives.1 in
       let m = only.fit.move in
       let good = good_higher S K h.then.session.nodes U (agreed earlier) (rulings earlier) (length (rulings earlier u)) (length (agreed earlier)) m
       (s'.fits.each u only.there).within only.fit.good in (
         m,
         only.fit.is,
-        sym only.fit.snapshot,
-        subst (λ x. ReadsOn (copy K es x) m.calls) only.fit.snapshot
+        sym same,
+        subst (λ x. ReadsOn (copy K es x) m.calls) same
             (reads_carried (settings (replica S K h.then.session.nodes (agreed earlier) good.from)) (copy K es m.snapshot) m.calls good.reads
             (λ n there. sym (copy_then e earlier later split m good n))),
       )
+
+  gives : (earlier later : List (Event T)) (u s : ℕ) (outcome : Outcome) → es ≡ later ++ at u s (collected outcome) ∷ earlier → Collects earlier u s outcome
+  gives earlier later u s outcome split =
+      let h = happened (at u s (collected outcome)) earlier later split in
+      collect_gives S K of_S of_K start made earlier h.then h.after h.before u s outcome h.step
 
   lawful : Lawful S K start es now
   lawful = record {
@@ -255,12 +270,15 @@ module _ {T : Type 0} (S : SummaryKind) (K : SettingKind T) (of_S : SummaryLaws 
     no_missing = no_missing;
     reads = reads;
     carried = carried;
+    counted = counted;
     one_move = one_move;
     stamps = stamps;
     serial = serial;
     copies = copies;
     read_only = read_only;
     exact = exact S K of_S of_K start made es now run;
+    closes = closes S K of_S of_K start made es now run;
+    collected = gives;
     next = next_step S K now (λ u there. omega (arith, (st.fits.each u (there.0, omega (arith, there.1, st.fits.suites))).four));
   }
 

@@ -21,10 +21,16 @@ pub mod Taking
 pub mod Standing
 pub mod Starting
 pub mod Refusing
+pub mod Closing
 pub mod Prefixes
 pub mod Histories
+pub mod Owing
+pub mod SentMoves
+pub mod OwingSteps
+pub mod Collecting
 pub mod Clashing
 pub mod Joining
 pub mod Stepping
+pub mod Checking
 pub mod Exactness
 pub mod Lawfulness

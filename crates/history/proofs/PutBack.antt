@@ -3,12 +3,12 @@
 use Rattle.std.proofs.Common.{◌≡◌, ℕ, ◌*◌, ◌≢◌, false, List, length, Some, Result, sym, refl, ap, ◌∙◌}
 use Rattle.history.proofs.Accepting.{Accepted, accepted_suite, accepted_slot}
 use Rattle.session.proofs.Placing.{length_placed}
-use Rattle.history.specs.Events.{Did, began, read, wrote, committed, abandoned, collected, at, took, call_of, answer_of, suite_of, slot_call}
+use Rattle.history.specs.Events.{Did, began, read, wrote, closed, abandoned, collected, at, took, call_of, answer_of, suite_of, slot_call}
 use Rattle.history.specs.Laws.{There}
 use Rattle.history.proofs.Effects.{effect}
 use Rattle.history.specs.Runs.{answer}
 use Rattle.history.specs.declared.call.Answer.TheVariants.{Began, Setting, Written, Committed, Abandoned, Collected, Taken}
-use Rattle.history.specs.declared.call.SlotNumber.{SlotNumber}
+use Rattle.history.specs.declared.call.SuiteSlot.{SuiteSlot}
 use Rattle.limits.specs.Limits.{places_each, slots_each, most_writes}
 use Rattle.refusals.specs.declared.Refusal.{Refusal}
 use Rattle.session.proofs.Shares.{Sized, sized_from, length_share_places, length_share_writes, same_share, other_share}
@@ -62,11 +62,11 @@ module _ {T : Type 0} where
   passed a = (a.fit, a.there)
 
   -- the suite of a call at a slot
-  pub suite_of_slot : (place : SlotNumber) (did : Did T) → suite_of (slot_call place did) ≡ Some place.suite
+  pub suite_of_slot : (place : SuiteSlot) (did : Did T) → suite_of (slot_call place did) ≡ Some place.suite
   suite_of_slot place (began snapshot) = refl
   suite_of_slot place (read n x) = refl
   suite_of_slot place (wrote n x) = refl
-  suite_of_slot place (committed answer) = refl
+  suite_of_slot place (closed answer) = refl
   suite_of_slot place abandoned = refl
   suite_of_slot place (collected outcome) = refl
 
@@ -76,9 +76,9 @@ module _ {T : Type 0} (S : SummaryKind) (K : SettingKind T) where
   effect_sizes u s (began snapshot) share = (refl, refl)
   effect_sizes u s (read n x) share = (refl, refl)
   effect_sizes u s (wrote n x) share = write_sizes share s n x (slot_of share s)
-  effect_sizes u s (committed Sent) share = (refl, refl)
-  effect_sizes u s (committed (ReadOnly snapshot)) share = (refl, refl)
-  effect_sizes u s (committed (ClashAtHome n)) share = (refl, refl)
+  effect_sizes u s (closed Sent) share = (refl, refl)
+  effect_sizes u s (closed (ReadOnly snapshot)) share = (refl, refl)
+  effect_sizes u s (closed (ClashAtHome n)) share = (refl, refl)
   effect_sizes u s abandoned share = (refl, refl)
   effect_sizes u s (collected outcome) share = (refl, refl)
 
@@ -95,7 +95,7 @@ module _ {T : Type 0} (S : SummaryKind) (K : SettingKind T) where
   at_accepted w u s (began snapshot) h = passed (accepted_slot Began w u (begin_answer s) _ s h).0
   at_accepted w u s (read n x) h = passed (accepted_slot Setting w u (read_answer w.session.nodes s n) _ s h).0
   at_accepted w u s (wrote n x) h = passed (accepted_slot (λ _. Written) w u (write_answer w.session.nodes s n) _ s h).0
-  at_accepted w u s (committed answer) h = passed (accepted_slot Committed w u (commit_answer S K w.session.nodes u s) _ s h).0
+  at_accepted w u s (closed answer) h = passed (accepted_slot Committed w u (commit_answer S K w.session.nodes u s) _ s h).0
   at_accepted w u s abandoned h = passed (accepted_slot (λ _. Abandoned) w u (abandon_answer s) _ s h).0
   at_accepted w u s (collected outcome) h = passed (accepted_slot Collected w u (collect_answer s) _ s h).0
 

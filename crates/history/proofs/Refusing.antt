@@ -1,31 +1,26 @@
--- In a world that fits, no read is refused for want of a version, and a commit that gives "read" gives the snapshot of the move that is open.
-use Rattle.std.proofs.Common.{◌≡◌, ℕ, ◌≤◌, Bool, true, false, cond, not, ◌&&◌, ◌||◌, eqb, leb, List, length, Some, None, Ok, Err, Option, Result, sym, refl, ap, ◌∙◌, arith}
-use Rattle.std.specs.Prelude.{option_map, find}
-use Rattle.history.proofs.Accepting.{accepted_slot}
+-- In a world that fits, no read is refused for want of a version.
+use Rattle.std.proofs.Common.{◌≡◌, ℕ, ◌≤◌, Bool, true, false, cond, not, ◌&&◌, ◌||◌, leb, List, length, Some, None, Ok, Err, Option, Result, sym, refl, ap, ◌∙◌, arith}
+use Rattle.std.specs.Prelude.{option_map}
 use Rattle.history.proofs.ContentLaws.{own_is_last}
 use Rattle.history.proofs.Fits.{OpenFits, Fits}
-use Rattle.history.proofs.SlotCalls.{fits_as, in_session}
+use Rattle.history.proofs.SlotCalls.{fits_as}
 use Rattle.history.specs.Moves.{Move}
 use Rattle.history.specs.Runs.{told, answer}
 use Rattle.history.specs.declared.call.Answer.{Answer}
-use Rattle.history.specs.declared.call.Answer.TheVariants.{Setting, Committed}
-use Rattle.history.specs.declared.call.Call.TheVariants.{Read, Commit}
-use Rattle.history.specs.declared.call.SlotNumber.{SlotNumber}
+use Rattle.history.specs.declared.call.Answer.TheVariants.{Setting}
+use Rattle.history.specs.declared.call.Call.TheVariants.{Read}
+use Rattle.history.specs.declared.call.SuiteSlot.{SuiteSlot}
 use Rattle.limits.proofs.Ranges.{not_outside}
 use Rattle.limits.specs.Limits.{outside}
-use Rattle.lines.specs.Lines.{offer_answer}
 use Rattle.messages.proofs.Judging.{known_decides}
 use Rattle.messages.specs.Reading.{known}
 use Rattle.refusals.specs.declared.Refusal.{Refusal}
 use Rattle.refusals.specs.declared.Refusal.TheVariants.{MemorySize, NoSuchSlot, UnknownNode, MoveFull, NoVersion}
-use Rattle.session.specs.Commits.{is_newer, move_message, after_check, commit_in, commit_answer}
 use Rattle.session.specs.Shares.{share_of, at_share, slot_of}
 use Rattle.session.specs.Slots.{own_writes, own, kept_version, read_open, read_in, read_answer}
 use Rattle.session.specs.States.{SlotState, idle, opened, sent, ruled, World, unfit}
 use Rattle.session.specs.Versions.{visible, versions_of}
 use Rattle.session.specs.declared.place.Place.{Place}
-use Rattle.session.specs.declared.ruling.CommitAnswer.{CommitAnswer}
-use Rattle.session.specs.declared.ruling.CommitAnswer.TheVariants.{ReadOnly}
 use Rattle.session.specs.declared.ruling.Ruling.{Ruling}
 use Rattle.settings.specs.Kinds.{SettingKind}
 use Rattle.summaries.specs.Kinds.{SummaryKind}
@@ -70,7 +65,7 @@ module _ {T : Type 0} (S : SummaryKind) (K : SettingKind T) (U : ℕ) (ms : List
   no_missing_in u s n there slot sent e h = cc
   no_missing_in u s n there slot (ruled outcome) e h = cc
 
-  pub never_missing : (slot : SlotNumber) (n : ℕ) → answer S K w (Read slot n) ≡ Err NoVersion → ⊥
+  pub never_missing : (slot : SuiteSlot) (n : ℕ) → answer S K w (Read slot n) ≡ Err NoVersion → ⊥
   never_missing slot n h = by (unfit w) (outside (length w.session.suites) slot.suite) (outside 4 slot.slot) refl refl refl h
     where
       untold : (r : Result T Refusal) → ◌≡◌ {A = Result (Answer T) Refusal} (told Setting r) (Err NoVersion) → r ≡ Err NoVersion
@@ -87,38 +82,3 @@ module _ {T : Type 0} (S : SummaryKind) (K : SettingKind T) (U : ℕ) (ms : List
           let there = not_outside (length w.session.suites) slot.suite e in
           no_missing_in slot.suite slot.slot n (there.0, omega (arith, there.1, f.suites)) (not_outside 4 slot.slot i) (slot_of (share_of w slot.suite) slot.slot) refl
           (untold (read_answer N slot.slot n (share_of w slot.suite)) h)
-
-  -- the move that is open where a commit gives "read"
-  pub record ReadsOnly (u s t : ℕ) : Type 0 where
-    pub there : (1 ≤ u) × (u ≤ U)
-    pub nodes : List ℕ
-    pub written : ℕ
-    pub fit : OpenFits S K N U ms rl (rl u) (share_of w u).places (share_of w u).writes s t nodes written (o u s)
-
-  pub reads_only_if : (u s t : ℕ) → answer S K w (Commit (record { suite = u; slot = s })) ≡ Ok (Committed (ReadOnly t)) → ReadsOnly u s t
-  reads_only_if u s t h =
-      let a = accepted_slot Committed w u (commit_answer S K N u s) (Committed (ReadOnly t)) s h in
-      by (in_session S K U ms rl o pend ca w f u s a.0.there) a.1 (slot_of (share_of w u) s) refl (a.0.ruled ∙ ap Ok (is_t a.0.value a.0.is))
-    where
-      is_t : (v : CommitAnswer) → ◌≡◌ {A = Answer T} (Committed v) (Committed (ReadOnly t)) → v ≡ ReadOnly t
-      is_t v e = cc
-
-      from : (t₁ : ℕ) (b : Bool) (c : Option ℕ) (r : Result (Unit {0}) Refusal) → cond b (Ok (ReadOnly t₁)) (after_check c r) ≡ Ok (ReadOnly t) → t₁ ≡ t
-      from t₁ true c r h = cc
-      from t₁ false (Some n) r h = cc
-      from t₁ false None (Ok v) h = cc
-      from t₁ false None (Err why) h = cc
-
-      by : (1 ≤ u) × (u ≤ U) → (1 ≤ s) × (s ≤ 4) → (q : SlotState) → slot_of (share_of w u) s ≡ q → commit_in S K N (share_of w u) u s q ≡ Ok (ReadOnly t) → ReadsOnly u s t
-      by there slot idle e r = cc
-      by there slot (opened t₁ nodes written) e r =
-          let same = from t₁ (eqb written 0) (find (is_newer N (share_of w u).places t₁) nodes)
-          (offer_answer w.line u (move_message S K u s t₁ nodes (own_writes (share_of w u) s written))) r in
-          record {
-            there = there;
-            nodes = nodes;
-            written = written;
-            fit = fits_as S K U ms rl o pend ca w f u s there slot (opened t nodes written) (e ∙ ap (λ z. opened z nodes written) same);
-          }
-      by there slot sent e r = cc
-      by there slot (ruled _) e r = cc

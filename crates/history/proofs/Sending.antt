@@ -15,7 +15,7 @@ use Rattle.history.proofs.Growing.{good_higher}
 use Rattle.history.proofs.ReplicaSteps.{stamp_le}
 use Rattle.history.proofs.SlotCalls.{fits_as, in_session}
 use Rattle.history.proofs.SlotSteps.{moves_then, slot_stepped, slot_only_stepped}
-use Rattle.history.specs.Events.{committed}
+use Rattle.history.specs.Events.{closed}
 use Rattle.history.specs.Moves.{Move}
 use Rattle.history.proofs.Effects.{effect}
 use Rattle.history.specs.Runs.{answer}
@@ -211,19 +211,19 @@ module _ {T : Type 0} (S : SummaryKind) (K : SettingKind T) (U : ℕ) (ms : List
               subst (λ l. Carries S K N U (get_or l k []) m' × GoodMove S K N U ms rl (length ms) m')
               (sym (waiting_offered_other w.line u message v (λ z. eqb-false u v e (sym z)))) (f.line.waiting_is v h k m' i)
 
-      pub sent_fits : Fits S K N U ms rl (moves_then o u s (committed Sent)) (pending_then m) ca (with_share w u (effect S K u s (committed Sent) share))
+      pub sent_fits : Fits S K N U ms rl (moves_then o u s (closed Sent)) (pending_then m) ca (with_share w u (effect S K u s (closed Sent) share))
       sent_fits =
-          subst (λ z. Fits S K N U ms rl (moves_then o u s (committed Sent)) (pending_then m) ca
+          subst (λ z. Fits S K N U ms rl (moves_then o u s (closed Sent)) (pending_then m) ca
           (with_share w u (record (with_slot share s sent) { line = with_message S K share u s z }))) (sym g.state)
-          (slot_stepped S K U ms rl o pend ca w f u s g.there g.slot (committed Sent) sent share.writes (offered w.line u message) (pending_then m)
+          (slot_stepped S K U ms rl o pend ca w f u s g.there g.slot (closed Sent) sent share.writes (offered w.line u message) (pending_then m)
           (length_share_writes w u f.sized (here g.there)) (λ r k h l d. refl) sent_line refl)
 
   pub ended_fits : (a : CommitAnswer) → a ≢ Sent → answer S K w (Commit (record { suite = u; slot = s })) ≡ Ok (Committed a) →
-      Fits S K N U ms rl (moves_then o u s (committed a)) pend ca (with_share w u (effect S K u s (committed a) share))
+      Fits S K N U ms rl (moves_then o u s (closed a)) pend ca (with_share w u (effect S K u s (closed a) share))
   ended_fits Sent d h = absurd (d refl)
   ended_fits (ReadOnly t) d h =
       let a = accepted_slot Committed w u (commit_answer S K N u s) (Committed (ReadOnly t)) s h in
-      slot_only_stepped S K U ms rl o pend ca w f u s (in_session S K U ms rl o pend ca w f u s a.0.there) a.1 (committed (ReadOnly t)) idle refl
+      slot_only_stepped S K U ms rl o pend ca w f u s (in_session S K U ms rl o pend ca w f u s a.0.there) a.1 (closed (ReadOnly t)) idle refl
   ended_fits (Clash n) d h =
       let a = accepted_slot Committed w u (commit_answer S K N u s) (Committed (Clash n)) s h in
-      slot_only_stepped S K U ms rl o pend ca w f u s (in_session S K U ms rl o pend ca w f u s a.0.there) a.1 (committed (Clash n)) idle refl
+      slot_only_stepped S K U ms rl o pend ca w f u s (in_session S K U ms rl o pend ca w f u s a.0.there) a.1 (closed (Clash n)) idle refl

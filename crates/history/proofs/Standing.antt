@@ -12,7 +12,7 @@ use Rattle.history.proofs.Settling.{settled_fits}
 use Rattle.history.proofs.SlotCalls.{began_fits, read_fits, abandoned_fits, collected_fits}
 use Rattle.history.proofs.SlotSteps.{moves_then}
 use Rattle.history.proofs.Taking.{took_fits}
-use Rattle.history.specs.Events.{Did, began, read, wrote, committed, abandoned, collected, Event, at, settled, took, declined}
+use Rattle.history.specs.Events.{Did, began, read, wrote, closed, abandoned, collected, Event, at, settled, took, declined}
 use Rattle.history.specs.Moves.{Move, with_call, continued, open_move, sends, sent_by, served, agreed, rulings, commits_as, committed_position}
 use Rattle.history.specs.Runs.{Step}
 use Rattle.lines.specs.Lines as line
@@ -47,7 +47,7 @@ open_origin {T} (at v r did ∷ es) u s m h = by did (eqb v u) (eqb r s) refl re
         (sym (ap (λ x. x.suite) same) ∙ eqb-true v u a, sym (ap (λ x. x.slot) same) ∙ eqb-true r s b)
     there (read n x) a b before h = kept (read n x) before (open_move es u s) refl h
     there (wrote n x) a b before h = kept (wrote n x) before (open_move es u s) refl h
-    there (committed answer) a b before h = cc
+    there (closed answer) a b before h = cc
     there abandoned a b before h = cc
     there (collected outcome) a b before h = cc
 
@@ -93,8 +93,8 @@ module _ {T : Type 0} (S : SummaryKind) (K : SettingKind T) (of_S : SummaryLaws 
       by v false = refl
 
   -- a commit that sends
-  sent : (u s : ℕ) (w' : World T) → Step S K w (at u s (committed Sent)) w' →
-      Sends S K U (agreed es) (rulings es) (open_move es) st.pending (committed_position es) w st.fits u s → Standing S K N U (at u s (committed Sent) ∷ es) w'
+  sent : (u s : ℕ) (w' : World T) → Step S K w (at u s (closed Sent)) w' →
+      Sends S K U (agreed es) (rulings es) (open_move es) st.pending (committed_position es) w st.fits u s → Standing S K N U (at u s (closed Sent) ∷ es) w'
   unfolding open_move sent_by served agreed rulings committed_position
   sent u s w' step g = record {
     passed = st.passed;
@@ -102,7 +102,7 @@ module _ {T : Type 0} (S : SummaryKind) (K : SettingKind T) (of_S : SummaryLaws 
     split = λ v. by v (eqb u v);
     counted = st.counted;
     nodes = ap (λ x. x.session.nodes) step.leaves;
-    fits = subst (Fits S K N U (agreed es) (rulings es) (moves_then (open_move es) u s (committed Sent))
+    fits = subst (Fits S K N U (agreed es) (rulings es) (moves_then (open_move es) u s (closed Sent))
         (λ v. cond (eqb u v) (st.pending v ++ g.fit.move ∷ []) (st.pending v)) (committed_position es)) (sym step.leaves)
         (sent_fits S K U (agreed es) (rulings es) (open_move es) st.pending (committed_position es) w st.fits u s of_S of_K numbers (λ m e. open_origin es u s m e) g);
   }
@@ -127,15 +127,15 @@ module _ {T : Type 0} (S : SummaryKind) (K : SettingKind T) (of_S : SummaryLaws 
       quiet u s (wrote n x) refl w' (ap (λ x. x.session.nodes) step.leaves)
       (subst (Fits S K N U (agreed es) (rulings es) (moves_then (open_move es) u s (wrote n x)) st.pending (committed_position es)) (sym step.leaves)
       (wrote_fits S K U (agreed es) (rulings es) (open_move es) st.pending (committed_position es) w st.fits u s n x step.answered))
-  slot_standing u s (committed Sent) w' step =
+  slot_standing u s (closed Sent) w' step =
       sent u s w' step (sends_if S K U (agreed es) (rulings es) (open_move es) st.pending (committed_position es) w st.fits u s step.answered)
-  slot_standing u s (committed (ReadOnly t)) w' step =
-      quiet u s (committed (ReadOnly t)) refl w' (ap (λ x. x.session.nodes) step.leaves)
-      (subst (Fits S K N U (agreed es) (rulings es) (moves_then (open_move es) u s (committed (ReadOnly t))) st.pending (committed_position es)) (sym step.leaves)
+  slot_standing u s (closed (ReadOnly t)) w' step =
+      quiet u s (closed (ReadOnly t)) refl w' (ap (λ x. x.session.nodes) step.leaves)
+      (subst (Fits S K N U (agreed es) (rulings es) (moves_then (open_move es) u s (closed (ReadOnly t))) st.pending (committed_position es)) (sym step.leaves)
       (ended_fits S K U (agreed es) (rulings es) (open_move es) st.pending (committed_position es) w st.fits u s (ReadOnly t) (λ e. cc) step.answered))
-  slot_standing u s (committed (ClashAtHome n)) w' step =
-      quiet u s (committed (ClashAtHome n)) refl w' (ap (λ x. x.session.nodes) step.leaves)
-      (subst (Fits S K N U (agreed es) (rulings es) (moves_then (open_move es) u s (committed (ClashAtHome n))) st.pending (committed_position es)) (sym step.leaves)
+  slot_standing u s (closed (ClashAtHome n)) w' step =
+      quiet u s (closed (ClashAtHome n)) refl w' (ap (λ x. x.session.nodes) step.leaves)
+      (subst (Fits S K N U (agreed es) (rulings es) (moves_then (open_move es) u s (closed (ClashAtHome n))) st.pending (committed_position es)) (sym step.leaves)
       (ended_fits S K U (agreed es) (rulings es) (open_move es) st.pending (committed_position es) w st.fits u s (ClashAtHome n) (λ e. cc) step.answered))
   slot_standing u s abandoned w' step =
       quiet u s abandoned refl w' (ap (λ x. x.session.nodes) step.leaves)

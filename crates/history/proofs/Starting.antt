@@ -1,5 +1,5 @@
 -- A session just made over an empty line fits a history without events.
-use Rattle.std.proofs.Common.{◌≡◌, ℕ, ◌+◌, ◌-◌, ◌*◌, ◌≤◌, Bool, true, false, cond, List, [], length, take, drop, replicate, None, Ok, Err, sym, refl, ap, ◌∙◌, subst, arith}
+use Rattle.std.proofs.Common.{◌≡◌, ℕ, ◌+◌, ◌-◌, ◌*◌, ◌≤◌, Bool, true, false, cond, List, [], length, take, drop, replicate, get_or, None, Ok, Err, sym, refl, ap, ◌∙◌, subst, arith}
 use Rattle.std.proofs.lemmas.List.{take-replicate, drop-replicate, get_or-replicate, length-replicate}
 use Rattle.std.specs.Prelude.{option_map}
 use Rattle.session.proofs.Parts.{part_inside}
@@ -18,7 +18,7 @@ use Rattle.session.proofs.Placing.{versions_filled}
 use Rattle.session.proofs.Shares.{sized_from, usable_from}
 use Rattle.session.proofs.Versions.{newest_replicate}
 use Rattle.session.specs.Making.{repeated, new_suite, new_session, make_answer, filled}
-use Rattle.session.specs.Shares.{share_of, nobody}
+use Rattle.session.specs.Shares.{share_of, nobody, slot_of}
 use Rattle.session.specs.States.{idle, SessionState, World, unfit}
 use Rattle.session.specs.Versions.{newest}
 use Rattle.session.specs.declared.place.Place.{Place}
@@ -121,13 +121,27 @@ module _ {T : Type 0} (S : SummaryKind) (K : SettingKind T) (suites : ℕ) (node
     };
   }
 
+module _ {T : Type 0} (K : SettingKind T) (start : World T) (made : Made K start) where
+  start_makes : Makes made.suites start.session.nodes made.handed start.writes start.line.limit start.session
+  start_makes =
+      makes_if made.suites start.session.nodes made.handed start.writes start.line.limit start.session
+      (ap (make_answer made.suites start.session.nodes made.handed start.writes) (sym made.line) ∙ made.accepted)
+
+  -- every slot is idle then
+  pub start_idle : (u s : ℕ) → (1 ≤ u) × (u ≤ length start.session.suites) → (1 ≤ s) × (s ≤ 4) → slot_of (share_of start u) s ≡ idle
+  start_idle u s there slot =
+      let makes = start_makes in
+      let many : length start.session.suites ≡ made.suites = ap (λ x. length x.suites) (sym makes.is) ∙ length-replicate made.suites new_suite in
+      ap (λ x. get_or (get_or x.suites (u - 1) nobody).slots (s - 1) idle) (sym makes.is)
+      ∙ ap (λ x. get_or x.slots (s - 1) idle) (get_or-replicate made.suites (u - 1) new_suite nobody (omega arith))
+      ∙ get_or-replicate 4 (s - 1) idle idle (omega arith)
+
 pub start_standing : {T : Type 0} (S : SummaryKind) (K : SettingKind T) (start : World T) → Made K start →
     Standing S K start.session.nodes (length start.session.suites) [] start
 start_standing S K start made =
     let nodes = start.session.nodes in
     let limit = start.line.limit in
-    let makes = makes_if made.suites nodes made.handed start.writes limit start.session
-    (ap (make_answer made.suites nodes made.handed start.writes) (sym made.line) ∙ made.accepted) in
+    let makes = start_makes K start made in
     let handed : World _ = record { session = new_session made.suites nodes; places = made.handed; writes = start.writes; line = empty_line limit } in
     let sized = sized_from handed makes.fit in
     let long : length start.writes ≡ made.suites * 64 = sized.writes ∙ ap (λ n. n * 64) (length-replicate made.suites new_suite) in

@@ -4,14 +4,14 @@
 use Rattle.std.proofs.Common.{◌≡◌, ℕ, ◌≤◌, Bool, true, false, cond, eqb, length, Ok, Err, Result, sym, refl, ap, ◌∙◌}
 use Rattle.std.proofs.lemmas.Bool.{eq-eqb}
 use Rattle.history.proofs.Accepting.{accepted_suite}
-use Rattle.history.specs.Events.{Did, began, read, wrote, committed, abandoned, collected, Event, at, settled, took, declined, slot_call, slot_answer, call_of, answer_of}
+use Rattle.history.specs.Events.{Did, began, read, wrote, closed, abandoned, collected, Event, at, settled, took, declined, slot_call, slot_answer, call_of, answer_of}
 use Rattle.history.specs.Laws.{There}
 use Rattle.history.specs.Runs.{told, answer, left_by, Leaves, Step}
 use Rattle.history.specs.declared.call.Answer.{Answer}
 use Rattle.history.specs.declared.call.Answer.TheVariants.{Began, Setting, Written, Committed, Abandoned, Collected, Settled, Taken}
 use Rattle.history.specs.declared.call.Call.{Call}
 use Rattle.history.specs.declared.call.Call.TheVariants.{Begin, Read, Write, Commit as CommitCall, Abandon, Collect, Settle, Take}
-use Rattle.history.specs.declared.call.SlotNumber.{SlotNumber}
+use Rattle.history.specs.declared.call.SuiteSlot.{SuiteSlot}
 use Rattle.lines.specs.Lines.{waiting_count, unusable, settled as after_settle, Serves}
 use Rattle.refusals.specs.declared.Refusal.{Refusal}
 use Rattle.refusals.specs.declared.Refusal.TheVariants.{MemorySize, NothingWaiting}
@@ -40,7 +40,7 @@ module _ {T : Type 0} (S : SummaryKind) (K : SettingKind T) (w : World T) where
   step_by call f (Err why) rules accepted = (declined call why, refl, w, record { answered = rules; leaves = refl })
 
   -- an accepted call at a slot leaves what the rules say
-  step_at : {A : Type 0} (slot : SlotNumber) (call : Call T) (f : A → Answer T) (r : Result A Refusal) → answer S K w call ≡ told f r →
+  step_at : {A : Type 0} (slot : SuiteSlot) (call : Call T) (f : A → Answer T) (r : Result A Refusal) → answer S K w call ≡ told f r →
       (did : A → Did T) → ((a : A) → slot_call slot (did a) ≡ call) → ((a : A) → slot_answer (did a) ≡ f a) → NextStep call
   step_at slot call f r rules did is_call is_answer =
       step_by call f r rules
@@ -70,7 +70,7 @@ module _ {T : Type 0} (S : SummaryKind) (K : SettingKind T) (w : World T) where
   next_step few (Begin slot) = step_at slot (Begin slot) Began _ refl began (λ a. refl) (λ a. refl)
   next_step few (Read slot n) = step_at slot (Read slot n) Setting _ refl (read n) (λ a. refl) (λ a. refl)
   next_step few (Write slot n x) = step_at slot (Write slot n x) (λ _. Written) _ refl (λ _. wrote n x) (λ a. refl) (λ a. refl)
-  next_step few (CommitCall slot) = step_at slot (CommitCall slot) Committed _ refl committed (λ a. refl) (λ a. refl)
+  next_step few (CommitCall slot) = step_at slot (CommitCall slot) Committed _ refl closed (λ a. refl) (λ a. refl)
   next_step few (Abandon slot) = step_at slot (Abandon slot) (λ _. Abandoned) _ refl (λ _. abandoned) (λ a. refl) (λ a. refl)
   next_step few (Collect slot) = step_at slot (Collect slot) Collected _ refl collected (λ a. refl) (λ a. refl)
   next_step few Settle =

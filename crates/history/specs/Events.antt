@@ -12,19 +12,19 @@ use Rattle.history.specs.declared.call.Answer.{Answer}
 use Rattle.history.specs.declared.call.Answer.TheVariants.{Began, Setting, Written, Committed, Abandoned, Collected, Settled, Taken}
 use Rattle.history.specs.declared.call.Call.{Call}
 use Rattle.history.specs.declared.call.Call.TheVariants.{Begin, Read, Write, Commit, Abandon, Collect, Settle, Take}
-use Rattle.history.specs.declared.call.SlotNumber.{SlotNumber}
+use Rattle.history.specs.declared.call.SuiteSlot.{SuiteSlot}
 use Rattle.refusals.specs.declared.Refusal.{Refusal}
 use Rattle.session.specs.declared.ruling.CommitAnswer.{CommitAnswer}
 use Rattle.session.specs.declared.ruling.Outcome.{Outcome}
 use Rattle.session.specs.declared.ruling.Ruling.{Ruling}
 
 -- an accepted call at a slot, with its answer: a begin and its snapshot; a read of a node and its setting; a write of a setting for a
--- node; a commit and its answer; an abandon; a collect and the outcome
+-- node; a commit, which closes the move, and its answer; an abandon; a collect and the outcome
 pub data Did (T : Type 0) : Type 0 where
   began : (snapshot : ℕ) → Did T
   read : (node : ℕ) (setting : T) → Did T
   wrote : (node : ℕ) (setting : T) → Did T
-  committed : CommitAnswer → Did T
+  closed : CommitAnswer → Did T
   abandoned : Did T
   collected : Outcome → Did T
 
@@ -38,11 +38,11 @@ pub data Event (T : Type 0) : Type 0 where
 
 module _ {T : Type 0} where
   -- the call of an accepted call at a slot, and its answer
-  abbrev pub slot_call : SlotNumber → Did T → Call T
+  abbrev pub slot_call : SuiteSlot → Did T → Call T
   slot_call slot (began snapshot) = Begin slot
   slot_call slot (read n x) = Read slot n
   slot_call slot (wrote n x) = Write slot n x
-  slot_call slot (committed answer) = Commit slot
+  slot_call slot (closed answer) = Commit slot
   slot_call slot abandoned = Abandon slot
   slot_call slot (collected outcome) = Collect slot
 
@@ -50,7 +50,7 @@ module _ {T : Type 0} where
   slot_answer (began snapshot) = Began snapshot
   slot_answer (read n x) = Setting x
   slot_answer (wrote n x) = Written
-  slot_answer (committed answer) = Committed answer
+  slot_answer (closed answer) = Committed answer
   slot_answer abandoned = Abandoned
   slot_answer (collected outcome) = Collected outcome
 

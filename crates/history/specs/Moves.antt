@@ -11,18 +11,19 @@
 --   served          how many settles served a suite
 --   agreed          the moves whose messages are agreed, in their order
 --   rulings         the rulings of a suite, the first one first
+--   from_slot       whether a move was made in a slot
 --   takes           how many takes of a suite were accepted
 --   committed_position   which agreed message was committed under a stamp
 --   committed_move  the move that was committed under a stamp
-use Rattle.std.specs.Prelude.{ℕ, suc, if◌then◌else◌, ◌&&◌, List, [], ◌∷◌, ◌++◌, length, take, drop, Some, None, Option, option_and_then, option_to_list, ◌==◌, slice_get}
-use Rattle.history.specs.Events.{Did, began, read, wrote, committed, Event, at, settled, took}
+use Rattle.std.specs.Prelude.{ℕ, suc, Bool, if◌then◌else◌, ◌&&◌, List, [], ◌∷◌, ◌++◌, length, take, drop, Some, None, Option, option_and_then, option_to_list, ◌==◌, slice_get}
+use Rattle.history.specs.Events.{Did, began, read, wrote, closed, Event, at, settled, took}
 use Rattle.session.specs.declared.ruling.CommitAnswer.TheVariants.{Sent}
 use Rattle.session.specs.declared.ruling.Outcome.TheVariants.{Commit}
 use Rattle.session.specs.declared.ruling.Ruling.{Ruling}
 use Rattle.session.specs.declared.ruling.Ruling.TheVariants.{Decided}
 
--- a move: the suite and the slot that it is made in, its snapshot, and its accepted reads and writes, with the answers of the reads, the latest first. What else is called in its slot
--- until that is idle again, refused calls included, does nothing to a copy, so it is left out
+-- a move: the suite and the slot that it is made in, its snapshot, and its accepted reads and writes, with the answers of the reads, the
+-- latest first. What else is called in its slot until that is idle again, refused calls included, does nothing to a copy, so it is left out
 pub record Move (T : Type 0) : Type 0 where
   pub suite : ℕ
   pub slot : ℕ
@@ -56,7 +57,7 @@ module _ {T : Type 0} where
 
   -- the moves that an accepted call at slot s of suite u sends, if this is the move that was open there
   abbrev pub sends : Did T → Option (Move T) → List (Move T)
-  sends (committed Sent) move = option_to_list move
+  sends (closed Sent) move = option_to_list move
   sends _ move = []
 
   -- the moves whose commits suite u answered with "sent", the first one first
@@ -84,12 +85,16 @@ module _ {T : Type 0} where
   rulings (took v ruling ∷ es) u = if v == u then rulings es u ++ ruling ∷ [] else rulings es u
   rulings (_ ∷ es) u = rulings es u
 
+  -- whether the move was made in slot s of suite u
+  abbrev pub from_slot : ℕ → ℕ → Move T → Bool
+  from_slot u s m = m.suite == u && m.slot == s
+
   -- how many takes of suite u were accepted
   abbrev pub takes : List (Event T) → ℕ → ℕ
   takes es u = length (rulings es u)
 
-  -- which agreed message was committed under a stamp: how many are agreed before it. A take that rules so is on the message before which the
-  -- suite had taken as many
+  -- which agreed message was committed under a stamp: how many are agreed before it, which is how many the suite had taken whose take
+  -- ruled so
   unfoldable pub committed_position : List (Event T) → ℕ → Option ℕ
   committed_position [] stamp = None
   committed_position (took v ruling ∷ es) stamp = commits_as stamp (takes es v) ruling (committed_position es stamp)

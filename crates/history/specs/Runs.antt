@@ -12,18 +12,18 @@ use Rattle.std.specs.Prelude.{◌≡◌, ℕ, List, [], ◌∷◌, Ok, Result}
 use Rattle.std.specs.List.{AllByRecursion}
 use Rattle.std.specs.Result.{result_map_both}
 use Rattle.number_bytes.specs.Bytes.{Number}
-use Rattle.history.specs.Events.{Did, began, read, wrote, committed, abandoned, collected, Event, at, settled, took, declined, call_of, answer_of}
+use Rattle.history.specs.Events.{Did, began, read, wrote, closed, abandoned, collected, Event, at, settled, took, declined, call_of, answer_of}
 use Rattle.history.specs.declared.call.Answer.{Answer}
 use Rattle.history.specs.declared.call.Answer.TheVariants.{Began, Setting, Written, Committed, Abandoned, Collected, Settled, Taken}
 use Rattle.history.specs.declared.call.Call.{Call}
 use Rattle.history.specs.declared.call.Call.TheVariants.{Begin, Read, Write, Commit, Abandon, Collect, Settle, Take}
 use Rattle.lines.specs.Lines.{empty_line}
 use Rattle.refusals.specs.declared.Refusal.{Refusal}
-use Rattle.session.specs.Calls.{begin_call, after_begin, read_call, after_read, write_call, after_write, commit_call, after_commit, abandon_call, after_abandon, collect_call, after_collect, settle_call, SettleLeaves, take_call, TakeLeaves, make_call, after_make}
+use Rattle.session.specs.Calls.{begin_call, after_begin, read_call, after_read, write_call, after_write, commit_call, after_commit, abandon_call, after_abandon, collect_call, after_collect, settle_call, SettleLeaves, take_call, TakeLeaves, after_make}
+use Rattle.session.specs.Making.{make_answer}
 use Rattle.session.specs.States.{World}
 use Rattle.session.specs.declared.place.Place.{Place}
 use Rattle.settings.specs.Kinds.{SettingKind}
-use Rattle.std.specs.List.{AllByRecursion}
 use Rattle.summaries.specs.Kinds.{SummaryKind}
 
 -- an answer of one call, as an answer to calls
@@ -34,7 +34,7 @@ told as_answer answer = result_map_both as_answer (λ why. why) answer
 pub record Made {T : Type 0} (K : SettingKind T) (start : World T) : Type 0 where
   pub suites : ℕ
   pub handed : List (Place T)
-  pub accepted : make_call suites start.session.nodes handed start.writes start.line ≡ Ok start.session
+  pub accepted : make_answer suites start.session.nodes handed start.writes start.line ≡ Ok start.session
   pub numbers : AllByRecursion Number start.session.nodes
   pub places : start.places ≡ after_make K (Ok start.session) suites start.session.nodes handed
   pub line : start.line ≡ empty_line start.line.limit
@@ -56,7 +56,7 @@ module _ {T : Type 0} (S : SummaryKind) (K : SettingKind T) where
   left_by w u s (began snapshot) = after_begin (Ok snapshot) w u s
   left_by w u s (read n x) = after_read (Ok x) w u s n
   left_by w u s (wrote n x) = after_write (Ok tt) w u s n x
-  left_by w u s (committed answer) = after_commit S K (Ok answer) w u s
+  left_by w u s (closed answer) = after_commit S K (Ok answer) w u s
   left_by w u s abandoned = after_abandon (Ok tt) w u s
   left_by w u s (collected outcome) = after_collect (Ok outcome) w u s
 

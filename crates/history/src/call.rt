@@ -2,28 +2,28 @@
 
 use session::ruling::{CommitAnswer, Outcome, Ruling};
 
-/// A slot of a suite; both count from 1.
+/// A slot of a suite, by their numbers, which count from 1.
 #[derive(Clone, Copy, PartialEq, Eq, Debug)]
-pub struct SlotNumber {
+pub struct SuiteSlot {
     pub suite: usize,
     pub slot: usize,
 }
 
-/// A call of a session that is made.
+/// A call of a session.
 #[derive(Clone, Copy, PartialEq, Eq, Debug)]
 pub enum Call<T> {
     /// Opens the slot.
-    Begin(SlotNumber),
+    Begin(SuiteSlot),
     /// Reads a node in the slot's move.
-    Read(SlotNumber, u64),
+    Read(SuiteSlot, u64),
     /// Writes a setting for a node there.
-    Write(SlotNumber, u64, T),
+    Write(SuiteSlot, u64, T),
     /// Commits the move.
-    Commit(SlotNumber),
+    Commit(SuiteSlot),
     /// Ends the move with nothing sent.
-    Abandon(SlotNumber),
+    Abandon(SuiteSlot),
     /// Gets the ruling on the move, and ends it.
-    Collect(SlotNumber),
+    Collect(SuiteSlot),
     /// Has the line agree a message.
     Settle,
     /// Has the suite rule on the next agreed message.

@@ -19,15 +19,13 @@
 --   take_call
 --   TakeLeaves      what a take leaves that ruled so
 --   AfterTake       what take leaves
---   make_call       what making a session answers: the session
---   after_make      the setting places then
+--   after_make      the setting places after making a session
 use Rattle.std.specs.Prelude.{◌≡◌, ℕ, if◌then◌else◌, List, length, Err, Result}
-use Rattle.lines.specs.Lines.{LineState, settle_answer, Serves}
-use Rattle.messages.specs.declared.parts.Write.{Write}
+use Rattle.lines.specs.Lines.{settle_answer, Serves}
 use Rattle.refusals.specs.declared.Refusal.{Refusal}
 use Rattle.refusals.specs.declared.Refusal.TheVariants.{MemorySize}
 use Rattle.session.specs.Commits.{commit_answer, commit_leaves}
-use Rattle.session.specs.Making.{make_answer, filled}
+use Rattle.session.specs.Making.{filled}
 use Rattle.session.specs.Shares.{share_of, with_share, check_suite, at_share, at_slot, left_at}
 use Rattle.session.specs.Slots.{begin_answer, begin_leaves, read_answer, read_leaves, write_answer, write_leaves, abandon_answer, abandon_leaves, collect_answer, collect_leaves}
 use Rattle.session.specs.States.{SessionState, World, unfit, after, After}
@@ -87,11 +85,7 @@ module _ {T : Type 0} where
   abbrev pub AfterSettle : Result (Unit {0}) Refusal → World T → World T → Type 0
   AfterSettle answer w w' = After answer (λ _ x. (u : ℕ) × SettleLeaves w u x) w w'
 
-  -- making a session of so many suites with these nodes, over these memories and this line
-  abbrev pub make_call : ℕ → List ℕ → List (Place T) → List (Write T) → LineState → Result SessionState Refusal
-  make_call suites nodes places writes line = make_answer suites nodes places writes line
-
-  -- the setting places are filled then; the write places and the line are as they were
+  -- making a session answers `make_answer`. The setting places are filled then; the write places and the line are as they were
   abbrev pub after_make : SettingKind T → Result SessionState Refusal → ℕ → List ℕ → List (Place T) → List (Place T)
   after_make K answer suites nodes places = after answer (λ _. filled K suites nodes) places
 

@@ -16,7 +16,7 @@ use Rattle.refusals.specs.declared.Refusal.{Refusal}
 use Rattle.refusals.specs.declared.Refusal.TheVariants.{SlotState as WrongState}
 use Rattle.session.specs.Shares.{Share, slot_of, with_slot}
 use Rattle.session.specs.Slots.{own_writes}
-use Rattle.session.specs.States.{SlotState, idle, opened, sent, ruled}
+use Rattle.session.specs.States.{SlotState, idle, opened, sent}
 use Rattle.session.specs.Versions.{newest_stamp, versions_of}
 use Rattle.session.specs.declared.place.Place.{Place}
 use Rattle.session.specs.declared.ruling.CommitAnswer.{CommitAnswer}
@@ -46,14 +46,12 @@ module _ {T : Type 0} (S : SummaryKind) (K : SettingKind T) where
 
   -- commit asks for an open slot
   abbrev pub commit_in : List ℕ → Share T → ℕ → ℕ → SlotState → Result CommitAnswer Refusal
-  commit_in nodes share u s idle = Err WrongState
   commit_in nodes share u s (opened snapshot reads written) =
       if written == 0
       then Ok (ReadOnly snapshot)
       else after_check (find (is_newer nodes share.places snapshot) reads)
       (offer_answer share.line u (move_message u s snapshot reads (own_writes share s written)))
-  commit_in nodes share u s sent = Err WrongState
-  commit_in nodes share u s (ruled outcome) = Err WrongState
+  commit_in nodes share u s _ = Err WrongState
 
   -- a commit in slot s of suite u
   abbrev pub commit_answer : List ℕ → ℕ → ℕ → Share T → Result CommitAnswer Refusal
@@ -61,11 +59,9 @@ module _ {T : Type 0} (S : SummaryKind) (K : SettingKind T) where
 
   -- the line with the message of the move, if the slot has an open one
   abbrev pub with_message : Share T → ℕ → ℕ → SlotState → LineState
-  with_message share u s idle = share.line
   with_message share u s (opened snapshot reads written) =
       offered share.line u (move_message u s snapshot reads (own_writes share s written))
-  with_message share u s sent = share.line
-  with_message share u s (ruled outcome) = share.line
+  with_message share u s _ = share.line
 
   -- after "sent" the slot is sent and the message waits in the line; after "read" and "clash" the slot is idle
   abbrev pub commit_leaves : ℕ → ℕ → CommitAnswer → Share T → Share T

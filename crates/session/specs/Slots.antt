@@ -46,23 +46,18 @@ first_write s = (s - 1) * most_writes
 -- begin asks for an idle slot, and gives the suite's stamp as the snapshot
 abbrev pub begin_in : ℕ → SlotState → Result ℕ Refusal
 begin_in stamp idle = Ok stamp
-begin_in stamp (opened snapshot reads written) = Err WrongState
-begin_in stamp sent = Err WrongState
-begin_in stamp (ruled outcome) = Err WrongState
+begin_in stamp _ = Err WrongState
 
 -- abandon asks for an open slot
 abbrev pub abandon_in : SlotState → Result (Unit {0}) Refusal
-abandon_in idle = Err WrongState
 abandon_in (opened snapshot reads written) = Ok tt
-abandon_in sent = Err WrongState
-abandon_in (ruled outcome) = Err WrongState
+abandon_in _ = Err WrongState
 
 -- collect asks for a slot whose move was ruled on, and gives the outcome
 abbrev pub collect_in : SlotState → Result Outcome Refusal
-collect_in idle = Err WrongState
-collect_in (opened snapshot reads written) = Err WrongState
-collect_in sent = Err NotRuled
 collect_in (ruled outcome) = Ok outcome
+collect_in sent = Err NotRuled
+collect_in _ = Err WrongState
 
 module _ {T : Type 0} where
   -- the writes of the move in slot s that has written so many nodes
@@ -105,13 +100,11 @@ module _ {T : Type 0} where
 
   -- read asks for an open slot and one of the session's nodes
   abbrev pub read_in : List ℕ → Share T → ℕ → ℕ → SlotState → Result T Refusal
-  read_in nodes share s n idle = Err WrongState
   read_in nodes share s n (opened snapshot reads written) =
       if not (known nodes n)
       then Err UnknownNode
       else read_open nodes share.places snapshot reads n (own (own_writes share s written) n)
-  read_in nodes share s n sent = Err WrongState
-  read_in nodes share s n (ruled outcome) = Err WrongState
+  read_in nodes share s n _ = Err WrongState
 
   -- a read of the node n in slot s
   abbrev pub read_answer : List ℕ → ℕ → ℕ → Share T → Result T Refusal
@@ -124,10 +117,8 @@ module _ {T : Type 0} where
 
   -- an open slot has the node among its reads then
   abbrev pub read_into : Share T → ℕ → ℕ → SlotState → SlotState
-  read_into share s n idle = idle
   read_into share s n (opened snapshot reads written) = opened snapshot (entered reads n (own (own_writes share s written) n)) written
-  read_into share s n sent = sent
-  read_into share s n (ruled outcome) = ruled outcome
+  read_into share s n state = state
 
   -- nothing but the slot changes
   abbrev pub read_leaves : ℕ → ℕ → T → Share T → Share T
@@ -137,15 +128,13 @@ module _ {T : Type 0} where
 
   -- write asks for an open slot and one of the session's nodes, and for room, unless the move has written the node before
   abbrev pub write_in : List ℕ → Share T → ℕ → ℕ → SlotState → Result (Unit {0}) Refusal
-  write_in nodes share s n idle = Err WrongState
   write_in nodes share s n (opened snapshot reads written) =
       if not (known nodes n)
       then Err UnknownNode
       else if not (is_some (own (own_writes share s written) n)) && nat_le most_writes written
       then Err MoveFull
       else Ok tt
-  write_in nodes share s n sent = Err WrongState
-  write_in nodes share s n (ruled outcome) = Err WrongState
+  write_in nodes share s n _ = Err WrongState
 
   -- a write of the node n in slot s
   abbrev pub write_answer : List ℕ → ℕ → ℕ → Share T → Result (Unit {0}) Refusal
@@ -155,16 +144,14 @@ module _ {T : Type 0} where
   abbrev pub write_at : Share T → ℕ → ℕ → ℕ → ℕ
   write_at share s n written = position_or_len (λ w. w.node == n) (own_writes share s written)
 
-  -- the write stands in its write place, and the slot has at least so many
+  -- the write stands in its write place, and the move has as many writes as that place asks for, or as it had
   abbrev pub write_into : Share T → ℕ → ℕ → T → SlotState → Share T
-  write_into share s n setting idle = share
   write_into share s n setting (opened snapshot reads written) =
       let at = write_at share s n written in
       record (with_slot share s (opened snapshot reads (max written (at + 1)))) {
         writes = slice_set share.writes (first_write s + at) (record { node = n; setting = setting });
       }
-  write_into share s n setting sent = share
-  write_into share s n setting (ruled outcome) = share
+  write_into share s n setting _ = share
 
   -- nothing but the slot and the write place changes
   abbrev pub write_leaves : ℕ → ℕ → T → Unit {0} → Share T → Share T

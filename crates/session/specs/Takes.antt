@@ -47,12 +47,10 @@ decided stamp None = Commit (stamp + 1)
 
 -- a slot whose move's message was ruled so, if it is sent
 abbrev pub ruled_if_sent : Outcome → SlotState → SlotState
-ruled_if_sent outcome idle = idle
-ruled_if_sent outcome (opened snapshot reads written) = opened snapshot reads written
 ruled_if_sent outcome sent = ruled outcome
-ruled_if_sent outcome (ruled before) = ruled before
+ruled_if_sent outcome state = state
 
--- the slots of suite u after a ruling on a message from this suite and slot: the message's own slot, if it is one of these
+-- the slots of suite u after a ruling on a message from `slot` of `suite`: if that suite is u, the slot has the outcome, if it was sent
 abbrev pub with_outcome : ℕ → ℕ → ℕ → Outcome → List SlotState → List SlotState
 with_outcome u suite slot outcome slots =
     if suite == u then slice_set slots (slot - 1) (ruled_if_sent outcome (slice_index_or slots (slot - 1) idle)) else slots
@@ -80,11 +78,9 @@ module _ {T : Type 0} where
   -- whether the move in slot s, which has this state, would read the place at index j of the node n: the move is open, has not written
   -- the node, as it would then read its own setting, and sees that place at its snapshot
   abbrev pub would_read : List ℕ → Share T → ℕ → ℕ → ℕ → SlotState → Bool
-  would_read nodes share n j s idle = false
   would_read nodes share n j s (opened snapshot reads written) =
       not (is_some (own (own_writes share s written) n)) && is_at j (visible snapshot (versions_of nodes share.places n))
-  would_read nodes share n j s sent = false
-  would_read nodes share n j s (ruled outcome) = false
+  would_read nodes share n j s _ = false
 
   -- j is the index of one of the five places of the node n, and no open move of the suite would read it
   abbrev pub Spare : List ℕ → Share T → ℕ → ℕ → Type 0
@@ -126,15 +122,13 @@ module _ {T : Type 0} (S : SummaryKind) (K : SettingKind T) where
   take_leaves nodes u chosen (Void fault) share = record share { suite = record share.suite { taken = share.suite.taken + 1 } }
   take_leaves nodes u chosen (Decided outcome) share =
       let m = next_message share in
-      record {
+      record share {
         suite = record {
           stamp = decided_stamp outcome share.suite.stamp;
           taken = share.suite.taken + 1;
           slots = with_outcome u (slice_index m 3) (slice_index m 4) outcome share.suite.slots;
         };
         places = decided_places outcome nodes chosen m share.places;
-        writes = share.writes;
-        line = share.line;
       }
 
   -- what the chosen places have to be: for each node that a commit writes, one of its five places, which no open move of the suite

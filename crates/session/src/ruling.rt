@@ -2,7 +2,7 @@
 
 use messages::fault::Fault;
 
-/// What a ruling says of a message without a fault, and a move's end.
+/// What a suite decides on a message without a fault.
 #[derive(Clone, Copy, PartialEq, Eq, Debug)]
 pub enum Outcome {
     /// The node, which the summary names, was committed after the snapshot.
@@ -14,7 +14,7 @@ pub enum Outcome {
 /// A suite's ruling (its certification) on a message.
 #[derive(Clone, Copy, PartialEq, Eq, Debug)]
 pub enum Ruling {
-    /// The message has this fault, and nothing comes of it.
+    /// The message has this fault. It counts as taken, and nothing else comes of it.
     Void(Fault),
     /// The message has no fault.
     Decided(Outcome),

@@ -21,5 +21,6 @@ impl Model for Suite {
 
     ghost view = { λ s. record { stamp = s.stamp; taken = s.taken; slots = map slot_state s.slots } };
 
+    // each commit was a message taken
     ghost invariant = { λ s. s.stamp ≤ s.taken };
 }

@@ -1,4 +1,4 @@
-// A session: its nodes and its suites.
+// The session as a whole: its nodes and its suites.
 
 use crate::suite::Suite;
 use arrayvec::ArrayVec;
