@@ -1,5 +1,6 @@
 pub mod Examples
 pub mod LineExamples
+pub mod RuleExamples
 pub mod SessionCases
 pub mod Widest
 pub mod WrongRules

@@ -4,6 +4,7 @@
 
 ghost use Rattle.cases.specs.Examples.{Examples};
 ghost use Rattle.cases.specs.LineExamples.{LineExamples};
+ghost use Rattle.cases.specs.RuleExamples.{RuleExamples};
 ghost use Rattle.cases.specs.SessionCases.{SessionCases};
 
 pub mod each_kind;
@@ -30,4 +31,9 @@ pub fn line_examples_stand()
 /// The worked cases of a session are histories: the rules answer every call as it is listed.
 pub fn session_cases_stand()
     ensures { SessionCases }
+{}
+
+/// The worked examples of a session's rules hold of the definitions.
+pub fn rule_examples_stand()
+    ensures { RuleExamples }
 {}

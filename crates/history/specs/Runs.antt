@@ -19,7 +19,7 @@ use Rattle.history.specs.declared.call.Call.{Call}
 use Rattle.history.specs.declared.call.Call.TheVariants.{Begin, Read, Write, Commit, Abandon, Collect, Settle, Take}
 use Rattle.lines.specs.Lines.{empty_line}
 use Rattle.refusals.specs.declared.Refusal.{Refusal}
-use Rattle.session.specs.Calls.{begin_call, after_begin, read_call, after_read, write_call, after_write, commit_call, after_commit, abandon_call, after_abandon, collect_call, after_collect, settle_call, SettleLeaves, take_call, TakeLeaves, after_make}
+use Rattle.session.specs.Calls.{begin_call, after_begin, read_call, after_read, write_call, after_write, commit_call, after_commit, abandon_call, after_abandon, collect_call, after_collect, settle_call, AfterSettle, take_call, AfterTake, after_make}
 use Rattle.session.specs.Making.{make_answer}
 use Rattle.session.specs.States.{World}
 use Rattle.session.specs.declared.place.Place.{Place}
@@ -64,8 +64,8 @@ module _ {T : Type 0} (S : SummaryKind) (K : SettingKind T) where
   -- and a refused call everything as it was
   abbrev pub Leaves : World T → Event T → World T → Type 0
   Leaves w (at u s did) w' = w' ≡ left_by w u s did
-  Leaves w (settled u) w' = SettleLeaves w u w'
-  Leaves w (took u ruling) w' = TakeLeaves S K w u ruling w'
+  Leaves w (settled u) w' = AfterSettle (Ok tt) u w w'
+  Leaves w (took u ruling) w' = AfterTake S K (Ok ruling) u w w'
   Leaves w (declined call why) w' = w' ≡ w
 
   -- an event that the rules allow: its call is answered so, and it leaves this

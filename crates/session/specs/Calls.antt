@@ -14,8 +14,7 @@
 --   collect_call
 --   after_collect
 --   settle_call
---   SettleLeaves    what a settle leaves that served a suite
---   AfterSettle     what settle leaves
+--   AfterSettle     what settle leaves, if it served this suite
 --   take_call
 --   TakeLeaves      what a take leaves that ruled so
 --   AfterTake       what take leaves
@@ -77,13 +76,9 @@ module _ {T : Type 0} where
   abbrev pub settle_call : World T → Result (Unit {0}) Refusal
   settle_call w = if unfit w then Err MemorySize else settle_answer w.line
 
-  -- the first message that waited for suite u is agreed, and nothing but the line has changed
-  abbrev pub SettleLeaves : World T → ℕ → World T → Type 0
-  SettleLeaves w u w' = Serves w.line w'.line u × (w' ≡ record w { line = w'.line })
-
-  -- which suite an accepted settle serves is the line's choice
-  abbrev pub AfterSettle : Result (Unit {0}) Refusal → World T → World T → Type 0
-  AfterSettle answer w w' = After answer (λ _ x. (u : ℕ) × SettleLeaves w u x) w w'
+  -- the first message that waited for suite u, which is the line's choice, is agreed, and nothing but the line has changed
+  abbrev pub AfterSettle : Result (Unit {0}) Refusal → ℕ → World T → World T → Type 0
+  AfterSettle answer u w w' = After answer (λ _ x. Serves w.line x.line u × (x ≡ record w { line = x.line })) w w'
 
   -- making a session answers `make_answer`. The setting places are filled then; the write places and the line are as they were
   abbrev pub after_make : SettingKind T → Result SessionState Refusal → ℕ → List ℕ → List (Place T) → List (Place T)
@@ -101,12 +96,12 @@ module _ {T : Type 0} (S : SummaryKind) (K : SettingKind T) where
   abbrev pub take_call : World T → ℕ → Result Ruling Refusal
   take_call w u = at_share (check_suite w u) w u (take_answer S K (length w.session.suites) w.session.nodes)
 
-  -- the ruling is noted and applied; which spare places a commit overwrites is left free
+  -- its own slot has the outcome, and a commit is applied; which spare places it overwrites is left free
   abbrev pub TakeLeaves : World T → ℕ → Ruling → World T → Type 0
   TakeLeaves w u ruling w' =
       (chosen : ℕ → ℕ)
       × Spares S K w.session.nodes chosen ruling (share_of w u)
       × (w' ≡ with_share w u (take_leaves S K w.session.nodes u chosen ruling (share_of w u)))
 
-  abbrev pub AfterTake : Result Ruling Refusal → World T → ℕ → World T → Type 0
-  AfterTake answer w u w' = After answer (TakeLeaves w u) w w'
+  abbrev pub AfterTake : Result Ruling Refusal → ℕ → World T → World T → Type 0
+  AfterTake answer u w w' = After answer (TakeLeaves w u) w w'
