@@ -13,7 +13,7 @@ use Rattle.std.specs.Prelude.{◌≡◌, ℕ, List, [], ◌∷◌, map, replicat
 use Rattle.std.specs.List.{range_with_len}
 use Rattle.lines.specs.Lines.{LineState, empty_line}
 use Rattle.messages.specs.Causes.{fault}
-use Rattle.messages.specs.declared.fault.Cause.TheVariants.{Length}
+use Rattle.messages.specs.declared.fault.Cause.TheVariants.{Snapshot}
 use Rattle.messages.specs.declared.parts.Write.{Write}
 use Rattle.refusals.specs.declared.Refusal.{Refusal}
 use Rattle.refusals.specs.declared.Refusal.TheVariants.{SuiteCount, NodeCount, RepeatedNode, MemorySize, NoSuchSlot, SlotState as WrongState, UnknownNode, MoveFull, NoVersion, LineFull, NothingWaiting, AllTaken, NotRuled}
@@ -134,11 +134,11 @@ pub record RuleExamples : Type 0 where
   -- nothing to settle, and nothing to take
   pub nothing_waits : settle_call every_world ≡ Err NothingWaiting
   pub nothing_agreed : take_call exact_list colours every_world 1 ≡ Err AllTaken
-  -- a message with a fault is taken, and changes nothing else
-  pub void : take_call exact_list colours (foreign held every_state (agreed_line ([] ∷ []))) 1 ≡ Ok (Void (fault Length 0))
+  -- a message with a fault, here with a snapshot above the stamp, is taken, and changes nothing else: its slot stays sent
+  pub void : take_call exact_list colours (taking 3 4) 1 ≡ Ok (Void (fault Snapshot 6))
   pub void_leaves :
-      take_leaves exact_list colours (7 ∷ []) 1 (λ n. 1) (Void (fault Length 0)) (share_of every_world 1)
-      ≡ record (share_of every_world 1) { suite = record { stamp = 3; taken = 1; slots = every_state } }
+      take_leaves exact_list colours (7 ∷ []) 1 (λ n. 1) (Void (fault Snapshot 6)) (share_of (taking 3 4) 1)
+      ≡ record (share_of (taking 3 4) 1) { suite = record { stamp = 3; taken = 1; slots = every_state } }
   -- node 7 is newest at 5: at snapshot 3 a message that read it is a clash, and its slot is ruled if it was sent, and in no other state
   pub clash : take_call exact_list colours (taking 3 3) 1 ≡ Ok (Decided (Clash 7))
   pub own_slot_ruled : slots_after (taking 3 3) ≡ idle ∷ opened 3 [] 0 ∷ ruled (Clash 7) ∷ ruled (Commit 1) ∷ []
