@@ -5,11 +5,15 @@
 //! is random, and depends on the seed alone. What is printed ends without a line
 //! end.
 
+pub mod bench;
 pub mod full_line;
 pub mod lines;
 pub mod messages;
-mod random;
+pub mod random;
+mod scenes;
+pub mod sessions;
 mod slips;
+mod spellings;
 
 use std::io::{self, Write};
 

@@ -1,7 +1,8 @@
 //! The line tool: it makes lines, makes calls of them, and shows what they
 //! answer.
 
-use crate::lines::{Kind, Line, Refusal, LONGEST_MESSAGE};
+use crate::lines::{Kind, Line, LONGEST_MESSAGE};
+use crate::refusal::Refusal;
 use crate::script::{bytes_of, hex, number, Tool};
 
 /// The most bytes that a line is made over.
@@ -110,11 +111,7 @@ fn answer(line: &mut Line, call: Call) -> String {
         Call::Fetch { number, room } => return fetched(line, number, room),
         Call::Agreed => agreed(line),
     };
-    answered.unwrap_or_else(refused)
-}
-
-fn refused(refusal: Refusal) -> String {
-    format!("no {}", refusal.number())
+    answered.unwrap_or_else(Refusal::words)
 }
 
 /// Fetches a message, and shows the whole buffer whatever the answer is.
@@ -122,7 +119,7 @@ fn fetched(line: &Line, number: u64, room: usize) -> String {
     let mut buffer = vec![BEFORE; room];
     let answer = match line.fetch(number, &mut buffer) {
         Ok(length) => format!("fetched {length}"),
-        Err(refusal) => refused(refusal),
+        Err(refusal) => refusal.words(),
     };
     format!("{answer} {}", hex(&buffer))
 }

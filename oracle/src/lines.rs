@@ -4,6 +4,7 @@
 use std::collections::VecDeque;
 
 use crate::message::MOST_SUITES;
+use crate::refusal::Refusal;
 
 /// The bytes of a line's place.
 pub const PLACE: usize = 1168;
@@ -16,23 +17,6 @@ pub const LONGEST_MESSAGE: usize = 1162;
 
 const LISTS: usize = MOST_SUITES as usize;
 
-/// Why a call of a line is refused.
-#[derive(Clone, Copy, Debug, PartialEq, Eq)]
-pub enum Refusal {
-    MemorySize = 4,
-    NoSuchSlot = 5,
-    LineFull = 10,
-    NothingWaiting = 11,
-    MessageLength = 14,
-    NoSuchMessage = 15,
-}
-
-impl Refusal {
-    pub fn number(self) -> u8 {
-        self as u8
-    }
-}
-
 /// The two lines.
 #[derive(Clone, Copy, Debug, PartialEq, Eq)]
 pub enum Kind {
@@ -42,6 +26,7 @@ pub enum Kind {
 
 /// How a line chooses the waiting list that a settle serves. Lists are counted
 /// from 0.
+#[derive(Clone, Debug, PartialEq, Eq)]
 enum Choice {
     /// The lists of the messages that wait, in the order of offering.
     FirstCome(VecDeque<usize>),
@@ -49,6 +34,7 @@ enum Choice {
     Turn(usize),
 }
 
+#[derive(Clone, Debug, PartialEq, Eq)]
 pub struct Line {
     agreed: Vec<Vec<u8>>,
     waiting: [VecDeque<Vec<u8>>; LISTS],
@@ -121,6 +107,18 @@ impl Line {
         Ok(message.len())
     }
 
+    /// The most messages that the line can hold.
+    pub fn limit(&self) -> usize {
+        self.limit
+    }
+
+    pub fn kind(&self) -> Kind {
+        match self.choice {
+            Choice::FirstCome(_) => Kind::FirstCome,
+            Choice::Turn(_) => Kind::Turn,
+        }
+    }
+
     fn check_memory(&self) -> Result<(), Refusal> {
         if (1..=MOST_PLACES).contains(&self.limit) {
             Ok(())
@@ -130,7 +128,7 @@ impl Line {
     }
 
     /// How many messages the line holds.
-    fn held(&self) -> usize {
+    pub fn held(&self) -> usize {
         self.agreed.len() + self.waiting.iter().map(VecDeque::len).sum::<usize>()
     }
 
@@ -326,21 +324,6 @@ mod tests {
                 assert_eq!(refused, Err(Refusal::NoSuchMessage));
                 assert_eq!(&buffer, b"cde..");
             }
-        }
-    }
-
-    #[test]
-    fn refusals_have_their_numbers() {
-        let refusals = [
-            (Refusal::MemorySize, 4),
-            (Refusal::NoSuchSlot, 5),
-            (Refusal::LineFull, 10),
-            (Refusal::NothingWaiting, 11),
-            (Refusal::MessageLength, 14),
-            (Refusal::NoSuchMessage, 15),
-        ];
-        for (refusal, number) in refusals {
-            assert_eq!(refusal.number(), number);
         }
     }
 }

@@ -6,12 +6,11 @@ use std::fmt::Write as _;
 use crate::message::{
     compose, read, Declined, Fault, Format, Message, Move, Session, MOST_SUITES, MOST_WRITES,
 };
-use crate::script::{bytes_of, hex, number, Tool};
+use crate::script::{bytes_of, hex, number, numbers, Tool};
+use crate::session::{has_repeats, MOST_NODES};
 use crate::settings::{Setting, SettingKind};
 use crate::summaries::{murmur2, SummaryKind, MOST_NUMBERS};
-
-/// The most nodes that a session has.
-pub const MOST_NODES: usize = 64;
+use crate::words::{setting, setting_kind, setting_words, summary_kind};
 
 /// A line of the right form, taken apart.
 pub enum Command {
@@ -230,9 +229,7 @@ fn session(suites: u64, stamp: u32, nodes: Vec<u64>) -> Result<Session, Error> {
     if !(1..=MOST_NODES).contains(&nodes.len()) {
         return Err(Error::NodeCount);
     }
-    let mut sorted = nodes.clone();
-    sorted.sort_unstable();
-    if sorted.windows(2).any(|pair| pair[0] == pair[1]) {
+    if has_repeats(&nodes) {
         return Err(Error::NodeTwice);
     }
     Ok(Session {
@@ -290,7 +287,7 @@ fn fields_shown(format: Format, session: &Session, message: &Message, length: us
     let _ = writeln!(lines, "summary {}", hex(&message.summary));
     let _ = writeln!(lines, "names{names}");
     for (node, setting) in &message.writes {
-        let _ = writeln!(lines, "write {node} {}", setting_shown(*setting));
+        let _ = writeln!(lines, "write {node} {}", setting_words(*setting));
     }
     lines
 }
@@ -312,58 +309,6 @@ fn fault_shown(fault: Fault) -> String {
         fault.cause(),
         fault.byte()
     )
-}
-
-/// A setting as a `write` line has it.
-fn setting_shown(setting: Setting) -> String {
-    match setting {
-        Setting::Colour([lift, gamma, gain]) => format!("{lift} {gamma} {gain}"),
-        Setting::Link(None) => "none".to_string(),
-        Setting::Link(Some(node)) => node.to_string(),
-    }
-}
-
-fn numbers(fields: &[&[u8]]) -> Option<Vec<u64>> {
-    fields.iter().map(|field| number(field)).collect()
-}
-
-/// A signed number of 32 bits: a number with or without one minus in front.
-fn signed_number(field: &[u8]) -> Option<i32> {
-    let value = match field.strip_prefix(b"-") {
-        Some(digits) => -i64::from(number::<u32>(digits)?),
-        None => i64::from(number::<u32>(field)?),
-    };
-    i32::try_from(value).ok()
-}
-
-/// The setting of the kind that these fields are.
-fn setting(kind: SettingKind, fields: &[&[u8]]) -> Option<Setting> {
-    match (kind, fields) {
-        (SettingKind::Colour, [lift, gamma, gain]) => Some(Setting::Colour([
-            signed_number(lift)?,
-            signed_number(gamma)?,
-            signed_number(gain)?,
-        ])),
-        (SettingKind::Link, [b"none"]) => Some(Setting::Link(None)),
-        (SettingKind::Link, [node]) => Some(Setting::Link(Some(number(node)?))),
-        _ => None,
-    }
-}
-
-fn setting_kind(field: &[u8]) -> Option<SettingKind> {
-    match field {
-        b"colour" => Some(SettingKind::Colour),
-        b"link" => Some(SettingKind::Link),
-        _ => None,
-    }
-}
-
-fn summary_kind(field: &[u8]) -> Option<SummaryKind> {
-    match field {
-        b"exact" => Some(SummaryKind::Exact),
-        b"bloom" => Some(SummaryKind::Bloom),
-        _ => None,
-    }
 }
 
 #[cfg(test)]
@@ -810,18 +755,5 @@ mod tests {
             .map(|(line, answer)| (&line[..], *answer))
             .collect();
         check(&lines);
-    }
-
-    #[test]
-    fn signed_numbers_have_one_minus_at_most() {
-        let zeros = "0".repeat(100);
-        assert_eq!(signed_number(b"-0"), Some(0));
-        assert_eq!(
-            signed_number(format!("-{zeros}2147483648").as_bytes()),
-            Some(i32::MIN)
-        );
-        assert_eq!(signed_number(b"2147483648"), None);
-        assert_eq!(signed_number(b"-2147483649"), None);
-        assert_eq!(signed_number(b"-4294967296"), None);
     }
 }

@@ -1,8 +1,9 @@
-//! Scripts: what both tools need to read lines of text and to answer them.
+//! Scripts: what the tools and the bench need to read lines of text and to
+//! answer them.
 
 use std::io::{self, BufRead, Write};
 
-/// The most bytes that a line has, without its line end.
+/// The most bytes that a tool's line has, without its line end.
 pub const LONGEST_LINE: usize = 4096;
 
 /// A tool that answers lines.
@@ -21,23 +22,29 @@ pub trait Tool {
     fn meet(&mut self, command: Self::Command) -> Result<String, &'static str>;
 }
 
+/// Runs a tool on the lines of the input.
+pub fn run(tool: &mut impl Tool, input: impl BufRead, output: &mut impl Write) -> io::Result<()> {
+    answer_lines(LONGEST_LINE, input, output, |line| answer(tool, line))
+}
+
 /// Answers every line of the input on the output, each before the next is read.
-pub fn run(
-    tool: &mut impl Tool,
+/// Of a line that is longer than the longest one byte more is given.
+pub fn answer_lines(
+    longest: usize,
     mut input: impl BufRead,
     output: &mut impl Write,
+    mut answer: impl FnMut(&[u8]) -> String,
 ) -> io::Result<()> {
     let mut line = Vec::new();
-    while next_line(&mut input, &mut line)? {
-        output.write_all(answer(tool, &line).as_bytes())?;
+    while next_line(longest, &mut input, &mut line)? {
+        output.write_all(answer(&line).as_bytes())?;
         output.flush()?;
     }
     Ok(())
 }
 
-/// Reads the next line without its line end; says whether there was one. Of a
-/// line that is too long only one byte more than the limit is kept.
-fn next_line(input: &mut impl BufRead, line: &mut Vec<u8>) -> io::Result<bool> {
+/// Reads the next line without its line end; says whether there was one.
+fn next_line(longest: usize, input: &mut impl BufRead, line: &mut Vec<u8>) -> io::Result<bool> {
     line.clear();
     let mut begun = false;
     loop {
@@ -48,7 +55,7 @@ fn next_line(input: &mut impl BufRead, line: &mut Vec<u8>) -> io::Result<bool> {
         begun = true;
         let end = bytes.iter().position(|byte| *byte == b'\n');
         let part = &bytes[..end.unwrap_or(bytes.len())];
-        let room = LONGEST_LINE + 1 - line.len();
+        let room = longest + 1 - line.len();
         line.extend_from_slice(&part[..part.len().min(room)]);
         let used = part.len() + usize::from(end.is_some());
         input.consume(used);
@@ -59,7 +66,7 @@ fn next_line(input: &mut impl BufRead, line: &mut Vec<u8>) -> io::Result<bool> {
 }
 
 /// The lines that answer a line; none for a line that is passed over.
-fn answer<T: Tool>(tool: &mut T, line: &[u8]) -> String {
+pub fn answer<T: Tool>(tool: &mut T, line: &[u8]) -> String {
     if line.len() > LONGEST_LINE {
         return "error: a line has at most 4096 bytes\n".to_string();
     }
@@ -97,6 +104,20 @@ pub fn number<N: TryFrom<u64>>(field: &[u8]) -> Option<N> {
     N::try_from(value).ok()
 }
 
+/// Numbers, one in each field.
+pub fn numbers(fields: &[&[u8]]) -> Option<Vec<u64>> {
+    fields.iter().map(|field| number(field)).collect()
+}
+
+/// A signed number of 32 bits: a number with or without one minus in front.
+pub fn signed_number(field: &[u8]) -> Option<i32> {
+    let value = match field.strip_prefix(b"-") {
+        Some(digits) => -i64::from(number::<u32>(digits)?),
+        None => i64::from(number::<u32>(field)?),
+    };
+    i32::try_from(value).ok()
+}
+
 /// Bytes as lower-case hexadecimal digits.
 pub fn hex(bytes: &[u8]) -> String {
     bytes.iter().map(|byte| format!("{byte:02x}")).collect()
@@ -115,26 +136,33 @@ pub fn bytes_of(digits: &[u8]) -> Option<Vec<u8>> {
         .collect()
 }
 
-/// What the tests of both tools need.
+/// What the tests of the tools need.
 #[cfg(test)]
 pub mod testing {
     use super::*;
     use std::io::BufReader;
 
-    /// The answers of a new tool to these bytes, read in pieces of several
-    /// lengths.
-    pub fn answers<T: Tool>(new: fn() -> T, input: impl AsRef<[u8]>) -> String {
-        let answered = |capacity| {
+    /// What is printed for these bytes, read in pieces of several lengths.
+    pub fn printed(
+        run: impl Fn(BufReader<&[u8]>, &mut Vec<u8>) -> io::Result<()>,
+        input: impl AsRef<[u8]>,
+    ) -> String {
+        let printed = |capacity| {
             let mut output = Vec::new();
             let input = BufReader::with_capacity(capacity, input.as_ref());
-            run(&mut new(), input, &mut output).unwrap();
+            run(input, &mut output).unwrap();
             String::from_utf8(output).unwrap()
         };
-        let whole = answered(1 << 20);
+        let whole = printed(1 << 20);
         for capacity in [1, 7, 4096] {
-            assert_eq!(answered(capacity), whole);
+            assert_eq!(printed(capacity), whole);
         }
         whole
+    }
+
+    /// The answers of a new tool to these bytes.
+    pub fn answers<T: Tool>(new: fn() -> T, input: impl AsRef<[u8]>) -> String {
+        printed(|input, output| run(&mut new(), input, output), input)
     }
 
     /// The lines of the answers of a new tool to these bytes.
@@ -145,10 +173,15 @@ pub mod testing {
 
     /// Checks that a new tool gives each line this one answer.
     pub fn check<T: Tool>(new: fn() -> T, lines: &[(&str, &str)]) {
+        check_printed(|input| answers(new, input), lines);
+    }
+
+    /// Checks that each line gets this one answer.
+    pub fn check_printed(print: impl Fn(&str) -> String, lines: &[(&str, &str)]) {
         let input: String = lines.iter().map(|(line, _)| format!("{line}\n")).collect();
-        let answers = answer_lines(new, &input);
-        assert_eq!(answers.len(), lines.len());
-        for ((line, expected), answer) in lines.iter().zip(answers) {
+        let printed = print(&input);
+        assert_eq!(printed.lines().count(), lines.len());
+        for ((line, expected), answer) in lines.iter().zip(printed.lines()) {
             assert_eq!(answer, *expected, "the answer to {line:?}");
         }
     }
@@ -165,6 +198,19 @@ mod tests {
         assert_eq!(number::<u8>(b"256"), None);
         assert_eq!(number::<u64>(b"18446744073709551615"), Some(u64::MAX));
         assert_eq!(number::<u64>(b"18446744073709551616"), None);
+    }
+
+    #[test]
+    fn signed_numbers_have_one_minus_at_most() {
+        let zeros = "0".repeat(100);
+        assert_eq!(signed_number(b"-0"), Some(0));
+        assert_eq!(
+            signed_number(format!("-{zeros}2147483648").as_bytes()),
+            Some(i32::MIN)
+        );
+        assert_eq!(signed_number(b"2147483648"), None);
+        assert_eq!(signed_number(b"-2147483649"), None);
+        assert_eq!(signed_number(b"-4294967296"), None);
     }
 
     #[test]

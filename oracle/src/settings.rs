@@ -25,6 +25,14 @@ impl SettingKind {
         }
     }
 
+    /// What every node holds at first.
+    pub fn start(self) -> Setting {
+        match self {
+            SettingKind::Colour => Setting::Colour([0; 3]),
+            SettingKind::Link => Setting::Link(None),
+        }
+    }
+
     /// The setting whose form these bytes are, if there is one.
     pub fn read(self, bytes: &[u8]) -> Option<Setting> {
         match self {

@@ -11,7 +11,8 @@ use Rattle.limits.proofs.Ranges.{not_outside}
 use Rattle.limits.specs.Limits.{most_suites, outside}
 use Rattle.lines.specs.Lines.{LineState, settled as served, Serves}
 use Rattle.refusals.specs.declared.Refusal.{Refusal}
-use Rattle.session.proofs.Spares.{spare_of, spares_of}
+use Rattle.session.proofs.Spares.{spares_of}
+use Rattle.session.specs.Choosing.{spare_of}
 use Rattle.session.specs.Shares.{share_of, with_share}
 use Rattle.session.specs.States.{World}
 use Rattle.session.specs.Takes.{take_leaves}

@@ -27,7 +27,7 @@ use Rattle.cases.specs.Examples.{zeros}
 use Rattle.history.specs.Events.{began, read, wrote, closed, abandoned, collected, Event, at, settled, took, declined}
 use Rattle.history.specs.Runs.{Run, Made}
 use Rattle.history.specs.declared.call.Call.TheVariants.{Read, Commit as CommitOf, Collect, Settle}
-use Rattle.history.specs.declared.call.SuiteSlot.{SuiteSlot}
+use Rattle.session.specs.declared.suite_slot.SuiteSlot.{SuiteSlot}
 use Rattle.limits.specs.Limits.{slots_each, most_writes}
 use Rattle.lines.specs.Lines.{empty_line}
 use Rattle.refusals.specs.declared.Refusal.TheVariants.{SlotState, MoveFull, LineFull, NothingWaiting, NotRuled}

@@ -25,7 +25,8 @@ use Rattle.std.specs.List.{range_with_len, list_all, position_or_len}
 use Rattle.cases.specs.SessionCases.{start_of, two_suites, slot, commits, lifted, Case, crossing, landing}
 use Rattle.history.specs.Events.{began, read, wrote, closed, collected, Event, at, settled, took, declined, call_of, answer_of}
 use Rattle.history.specs.Laws.{Lawful}
-use Rattle.history.specs.Runs.{told, answer, Leaves, Run, Made}
+use Rattle.history.specs.Runs.{answer, Leaves, Run, Made}
+use Rattle.session.specs.Steps.{told}
 use Rattle.history.specs.declared.call.Answer.{Answer}
 use Rattle.history.specs.declared.call.Answer.TheVariants.{Setting, Taken}
 use Rattle.history.specs.declared.call.Call.{Call}

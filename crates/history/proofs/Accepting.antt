@@ -2,7 +2,7 @@
 -- suite's share accepts it.
 use Rattle.std.proofs.Common.{◌≡◌, ℕ, ◌≤◌, false, length, Ok, Err, Result, refl}
 use Rattle.session.specs.Shares.{at_slot}
-use Rattle.history.specs.Runs.{told}
+use Rattle.session.specs.Steps.{told}
 use Rattle.refusals.specs.declared.Refusal.{Refusal}
 use Rattle.session.proofs.Shares.{checked_suite, checked_slot}
 use Rattle.session.specs.Shares.{Share, share_of, check_suite, check_slot, at_share}

@@ -5,12 +5,13 @@ use Rattle.history.specs.Events.{Did, Event, at, settled, took, declined, call_o
 use Rattle.history.specs.Laws.{There, SameShape, Isolation}
 use Rattle.history.proofs.Effects.{effect, left_is}
 use Rattle.session.specs.Shares.{at_slot}
-use Rattle.history.specs.Runs.{told, answer, Step}
+use Rattle.history.specs.Runs.{answer, Step}
+use Rattle.session.specs.Steps.{told}
 use Rattle.history.specs.declared.call.Answer.TheVariants.{Began, Setting, Written, Committed, Abandoned, Collected, Taken}
 use Rattle.history.specs.declared.call.Answer.{Answer}
 use Rattle.history.specs.declared.call.Call.TheVariants.{Begin, Read, Write as WriteCall, Commit as CommitCall, Abandon, Collect, Settle, Take}
 use Rattle.history.specs.declared.call.Call.{Call}
-use Rattle.history.specs.declared.call.SuiteSlot.{SuiteSlot}
+use Rattle.session.specs.declared.suite_slot.SuiteSlot.{SuiteSlot}
 use Rattle.refusals.specs.declared.Refusal.{Refusal}
 use Rattle.lines.specs.Lines.{Serves}
 use Rattle.session.specs.Commits.{commit_answer}

@@ -33,14 +33,16 @@ use Rattle.history.proofs.Replicas.{Replica, rules_on, replica, commit_stamp}
 use Rattle.history.proofs.Ruling.{rules_if}
 use Rattle.history.proofs.SlotCalls.{read_gives}
 use Rattle.history.proofs.Standing.{Standing}
-use Rattle.history.specs.Contents.{last_write, reads_of}
+use Rattle.history.specs.Contents.{last_write, reads_of, writes_of}
 use Rattle.history.specs.Copies.{copy, ReadsOn}
 use Rattle.history.specs.Events.{read, closed, collected, Event, at, took, declined}
+use Rattle.messages.specs.Returning.{Returned}
+use Rattle.session.proofs.Reading.{given_back}
 use Rattle.history.specs.Laws.{There, Collects, Moment, MessageOf, Lawful, Law, state_of, newest_of}
 use Rattle.history.specs.Moves.{Move, open_move, agreed, rulings, takes, committed_position, committed_move}
 use Rattle.history.specs.Runs.{Step, Run, Made}
 use Rattle.history.specs.declared.call.Call.TheVariants.{Read}
-use Rattle.history.specs.declared.call.SuiteSlot.{SuiteSlot}
+use Rattle.session.specs.declared.suite_slot.SuiteSlot.{SuiteSlot}
 use Rattle.lines.specs.Lines.{message_number}
 use Rattle.refusals.specs.declared.Refusal.TheVariants.{NoVersion}
 use Rattle.messages.specs.declared.fault.Fault.{Fault}
@@ -177,10 +179,12 @@ module _ {T : Type 0} (S : SummaryKind) (K : SettingKind T) (of_S : SummaryLaws 
     λ k m e.
         let c = (st.fits.line.agreed_is k m e).0 in
         let place : k + 1 - 1 ≡ k = omega arith in
+        let is = ap (λ i. get_or now.line.agreed i []) place ∙ c.is in
         record {
           suite_there = (c.fit.suite_there.0, c.there);
           slot_there = c.fit.slot_there;
-          is = ap (λ i. get_or now.line.agreed i []) place ∙ c.is;
+          is = is;
+          returns = subst (Returned S K _ (reads_of m.calls) (writes_of m.calls)) (sym is) (given_back S K of_S of_K c.fit made.numbers);
         },
   )
 

@@ -7,6 +7,7 @@ pub mod Effects
 pub mod Fits
 pub mod Growing
 pub mod Accepting
+pub mod Performing
 pub mod PutBack
 pub mod Isolating
 pub mod Changing
@@ -16,6 +17,7 @@ pub mod WriteCalls
 pub mod Sending
 pub mod Settling
 pub mod Ruling
+pub mod Running
 pub mod Applying
 pub mod Taking
 pub mod Standing

@@ -8,7 +8,7 @@ use Rattle.history.specs.Laws.{There}
 use Rattle.history.proofs.Effects.{effect}
 use Rattle.history.specs.Runs.{answer}
 use Rattle.history.specs.declared.call.Answer.TheVariants.{Began, Setting, Written, Committed, Abandoned, Collected, Taken}
-use Rattle.history.specs.declared.call.SuiteSlot.{SuiteSlot}
+use Rattle.session.specs.declared.suite_slot.SuiteSlot.{SuiteSlot}
 use Rattle.limits.specs.Limits.{places_each, slots_each, most_writes}
 use Rattle.refusals.specs.declared.Refusal.{Refusal}
 use Rattle.session.proofs.Shares.{Sized, sized_from, length_share_places, length_share_writes, same_share, other_share}

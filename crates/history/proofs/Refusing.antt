@@ -5,11 +5,12 @@ use Rattle.history.proofs.ContentLaws.{own_is_last}
 use Rattle.history.proofs.Fits.{OpenFits, Fits}
 use Rattle.history.proofs.SlotCalls.{fits_as}
 use Rattle.history.specs.Moves.{Move}
-use Rattle.history.specs.Runs.{told, answer}
+use Rattle.history.specs.Runs.{answer}
+use Rattle.session.specs.Steps.{told}
 use Rattle.history.specs.declared.call.Answer.{Answer}
 use Rattle.history.specs.declared.call.Answer.TheVariants.{Setting}
 use Rattle.history.specs.declared.call.Call.TheVariants.{Read}
-use Rattle.history.specs.declared.call.SuiteSlot.{SuiteSlot}
+use Rattle.session.specs.declared.suite_slot.SuiteSlot.{SuiteSlot}
 use Rattle.limits.proofs.Ranges.{not_outside}
 use Rattle.limits.specs.Limits.{outside}
 use Rattle.messages.proofs.Judging.{known_decides}

@@ -6,17 +6,19 @@ use Rattle.std.proofs.lemmas.Bool.{eq-eqb}
 use Rattle.history.proofs.Accepting.{accepted_suite}
 use Rattle.history.specs.Events.{Did, began, read, wrote, closed, abandoned, collected, Event, at, settled, took, declined, slot_call, slot_answer, call_of, answer_of}
 use Rattle.history.specs.Laws.{There}
-use Rattle.history.specs.Runs.{told, answer, left_by, Leaves, Step}
+use Rattle.history.specs.Runs.{answer, left_by, Leaves, Step}
+use Rattle.session.specs.Steps.{told}
 use Rattle.history.specs.declared.call.Answer.{Answer}
 use Rattle.history.specs.declared.call.Answer.TheVariants.{Began, Setting, Written, Committed, Abandoned, Collected, Settled, Taken}
 use Rattle.history.specs.declared.call.Call.{Call}
 use Rattle.history.specs.declared.call.Call.TheVariants.{Begin, Read, Write, Commit as CommitCall, Abandon, Collect, Settle, Take}
-use Rattle.history.specs.declared.call.SuiteSlot.{SuiteSlot}
+use Rattle.session.specs.declared.suite_slot.SuiteSlot.{SuiteSlot}
 use Rattle.lines.specs.Lines.{waiting_count, unusable, settled as after_settle, Serves}
 use Rattle.refusals.specs.declared.Refusal.{Refusal}
 use Rattle.refusals.specs.declared.Refusal.TheVariants.{MemorySize, NothingWaiting}
 use Rattle.session.proofs.LineFacts.{some_waits}
-use Rattle.session.proofs.Spares.{spare_of, spares_of}
+use Rattle.session.proofs.Spares.{spares_of}
+use Rattle.session.specs.Choosing.{spare_of}
 use Rattle.session.specs.Calls.{settle_call}
 use Rattle.session.specs.Shares.{Share, share_of, with_share, check_suite, at_share}
 use Rattle.session.specs.States.{World, unfit}

@@ -24,10 +24,11 @@ use Rattle.history.specs.Moves.{Move, open_move, sent_by, from_slot, agreed, rul
 use Rattle.history.specs.Runs.{answer, Step, Run, Made}
 use Rattle.history.specs.declared.call.Call.{Call}
 use Rattle.history.specs.declared.call.Call.TheVariants.{Read, Settle}
-use Rattle.history.specs.declared.call.SuiteSlot.{SuiteSlot}
+use Rattle.session.specs.declared.suite_slot.SuiteSlot.{SuiteSlot}
 use Rattle.limits.specs.Limits.{slots_each}
 use Rattle.lines.specs.Lines.{message_number}
 use Rattle.messages.specs.Reading.{header_in, summary_in}
+use Rattle.messages.specs.Returning.{Returned}
 use Rattle.messages.specs.declared.fault.Fault.{Fault}
 use Rattle.refusals.specs.declared.Refusal.TheVariants.{NoVersion}
 use Rattle.session.specs.Commits.{move_message}
@@ -124,6 +125,8 @@ module _ {T : Type 0} (S : SummaryKind) (K : SettingKind T) where
     pub suite_there : (1 ≤ m.suite) × (m.suite ≤ suites)
     pub slot_there : (1 ≤ m.slot) × (m.slot ≤ slots_each)
     pub is : bytes ≡ move_message S K m.suite m.slot m.snapshot (reads_of m.calls) (writes_of m.calls)
+    -- reading it gives all its fields back
+    pub returns : Returned S K (record { suite = m.suite; slot = m.slot; snapshot = m.snapshot }) (reads_of m.calls) (writes_of m.calls) bytes
 
   -- the summary of the message names the node n, which was committed after the message's snapshot, as a suite with this stamp knows
   abbrev pub IsClash : List (Event T) → ℕ → List ℕ → ℕ → Type 0

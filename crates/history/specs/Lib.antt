@@ -4,3 +4,4 @@ pub mod Contents
 pub mod Moves
 pub mod Copies
 pub mod Laws
+pub mod Performing

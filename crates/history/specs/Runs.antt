@@ -1,7 +1,6 @@
 -- Histories: a session just made over an empty line, and then one call after the other, each answered as the rules say, and each
 -- getting the session, the memories and the line as the last one left them.
 --
---   told            an answer, as an answer to a call
 --   answer          what the rules answer to a call
 --   left_by         what an accepted call at a slot leaves
 --   Leaves          what an event leaves
@@ -10,7 +9,6 @@
 --   Made            a session just made over an empty line
 use Rattle.std.specs.Prelude.{◌≡◌, ℕ, List, [], ◌∷◌, Ok, Result}
 use Rattle.std.specs.List.{AllByRecursion}
-use Rattle.std.specs.Result.{result_map_both}
 use Rattle.number_bytes.specs.Bytes.{Number}
 use Rattle.history.specs.Events.{Did, began, read, wrote, closed, abandoned, collected, Event, at, settled, took, declined, call_of, answer_of}
 use Rattle.history.specs.declared.call.Answer.{Answer}
@@ -22,13 +20,10 @@ use Rattle.refusals.specs.declared.Refusal.{Refusal}
 use Rattle.session.specs.Calls.{begin_call, after_begin, read_call, after_read, write_call, after_write, commit_call, after_commit, abandon_call, after_abandon, collect_call, after_collect, settle_call, AfterSettle, take_call, AfterTake, after_make}
 use Rattle.session.specs.Making.{make_answer}
 use Rattle.session.specs.States.{World}
+use Rattle.session.specs.Steps.{told}
 use Rattle.session.specs.declared.place.Place.{Place}
 use Rattle.settings.specs.Kinds.{SettingKind}
 use Rattle.summaries.specs.Kinds.{SummaryKind}
-
--- an answer of one call, as an answer to calls
-abbrev pub told : {A B : Type 0} → (A → B) → Result A Refusal → Result B Refusal
-told as_answer answer = result_map_both as_answer (λ why. why) answer
 
 -- a session of so many suites that was just made over an empty line and some handed places; its node numbers are of 64 bits
 pub record Made {T : Type 0} (K : SettingKind T) (start : World T) : Type 0 where

@@ -1,13 +1,7 @@
 // The calls of a session as values, and their answers.
 
 use session::ruling::{CommitAnswer, Outcome, Ruling};
-
-/// A slot of a suite, by their numbers, which count from 1.
-#[derive(Clone, Copy, PartialEq, Eq, Debug)]
-pub struct SuiteSlot {
-    pub suite: usize,
-    pub slot: usize,
-}
+use session::suite_slot::SuiteSlot;
 
 /// A call of a session.
 #[derive(Clone, Copy, PartialEq, Eq, Debug)]

@@ -3,3 +3,5 @@
 
 pub mod call;
 pub mod law;
+pub mod perform;
+pub mod run;

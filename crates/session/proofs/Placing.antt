@@ -120,7 +120,7 @@ module _ {T : Type 0} where
   placed_version t j (Some x) ps = set ps j (record { stamp = t; setting = x })
 
   -- a node that none of the writes is for has no setting of theirs
-  unwritten : (n : ℕ) (ws : List (Write T)) → ((i : ℕ) → i < length (map (λ w. w.node) ws) → n ≢ get_or (map (λ w. w.node) ws) i 0) → own ws n ≡ None
+  pub unwritten : (n : ℕ) (ws : List (Write T)) → ((i : ℕ) → i < length (map (λ w. w.node) ws) → n ≢ get_or (map (λ w. w.node) ws) i 0) → own ws n ≡ None
   unwritten n [] others = refl
   unwritten n (w ∷ ws) others =
       ap (λ b. option_map (λ v. v.setting) (cond b (Some w) (find (λ v. eqb v.node n) ws))) (ne_eqb w.node n (λ e. others 0 (omega arith) (sym e)))

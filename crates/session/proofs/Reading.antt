@@ -62,7 +62,7 @@ module _ {T : Type 0} (S : SummaryKind) (K : SettingKind T) (of_S : SummaryLaws 
   packed_wide : length (S.packed reads) ≡ S.wide
   packed_wide = of_S.packed_is_wide reads sendable.few_reads
 
-  given_back : Returned S K from reads ws msg
+  pub given_back : Returned S K from reads ws msg
   given_back = returned S K of_K.form_is_wide of_K.form_reads from reads ws packed_wide sendable.small numbered
 
   -- ---- the parts

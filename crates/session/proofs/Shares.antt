@@ -86,12 +86,12 @@ module _ {T : Type 0} where
   -- ---- the sizes of a share
 
   module _ (w : World T) (u : ℕ) (sized : Sized w) (there : There w u) where
-    inside_places : (u - 1) * (length w.session.nodes * places_each) + length w.session.nodes * places_each ≤ length w.places
+    pub inside_places : (u - 1) * (length w.session.nodes * places_each) + length w.session.nodes * places_each ≤ length w.places
     inside_places =
         let inside = part_inside (u - 1) (length w.session.suites) (length w.session.nodes * places_each) (omega arith) in
         omega (arith, inside, sized.places)
 
-    inside_writes : (u - 1) * (slots_each * most_writes) + slots_each * most_writes ≤ length w.writes
+    pub inside_writes : (u - 1) * (slots_each * most_writes) + slots_each * most_writes ≤ length w.writes
     inside_writes =
         let inside = part_inside (u - 1) (length w.session.suites) (slots_each * most_writes) (omega arith) in
         omega (arith, inside, sized.writes)

@@ -1,11 +1,12 @@
 -- A node has always a spare place: the four slots of a suite read at most four of its five.
-use Rattle.std.proofs.Common.{◌≡◌, ℕ, zero, suc, ◌+◌, ◌-◌, ◌<◌, ◌≤◌, ◌⊎◌, inl, inr, ◌&&◌, is_some, Bool, true, false, cond, not, ◌||◌, eqb, List, [], ◌∷◌, length, get_or, Option, Some, None, count_by, sym, refl, ap, ◌∙◌, arith}
+use Rattle.std.proofs.Common.{◌≡◌, ℕ, zero, suc, ◌+◌, ◌-◌, ◌<◌, ◌≤◌, ◌⊎◌, inl, inr, ◌&&◌, is_some, Bool, true, false, cond, not, ◌||◌, eqb, List, [], ◌∷◌, length, map, get_or, Option, Some, None, option_map, IsSome, find, count_by, sym, refl, ap, ◌∙◌, arith}
 use Rattle.limits.specs.Limits.{places_each}
 use Rattle.session.specs.States.{SlotState, idle, opened, sent, ruled}
 use Rattle.session.specs.Shares.{Share, slot_of}
 use Rattle.session.specs.Slots.{own_writes, own}
 use Rattle.session.proofs.Finding.{all_in}
-use Rattle.session.specs.Takes.{is_at, would_read, Spare, writes_in, next_message, Spares}
+use Rattle.session.specs.Choosing.{sees_place, read_by_any, first_unread, first_spare, spare_of}
+use Rattle.session.specs.Takes.{would_read, Spare, writes_in, next_message, Spares}
 use Rattle.session.specs.declared.ruling.Outcome.TheVariants.{Clash, Commit}
 use Rattle.session.specs.declared.ruling.Ruling.{Ruling}
 use Rattle.session.specs.declared.ruling.Ruling.TheVariants.{Void, Decided}
@@ -18,6 +19,8 @@ use Rattle.std.proofs.Math.Bool.{and-false}
 use Rattle.std.proofs.lemmas.List.{get_or_past}
 use Rattle.std.proofs.lemmas.Bool.{cases_lt, eqb-true, ne_eqb, or_parts, not-true}
 use Rattle.std.proofs.lemmas.List.FromFn.{length-range_with_len, get_or-range_with_len}
+use Rattle.std.proofs.lemmas.List.Folds.{find_at}
+use Rattle.std.proofs.lemmas.Option.{slice_get-get_or}
 use Rattle.std.proofs.lemmas.List.Sums.{sum_by-cons, sum_by-le, passes_at_first}
 use Rattle.std.specs.List.{AllByRecursion, list_any, position_or_len, range_with_len}
 
@@ -70,6 +73,24 @@ module _ {X : Type 0} where
       let parts = or_parts (p x) (list_any p xs) h in
       (parts.0, none_pass p xs parts.1)
 
+-- what an answer that was passed on unchanged has
+pub some_inside : {X : Type 0} (o : Option X) (x : X) → option_map (λ y. y) o ≡ Some x → IsSome o
+some_inside None x h = cc
+some_inside (Some y) x h = refl
+
+pub some_there : {X : Type 0} (o : Option X) (x : X) → o ≡ Some x → IsSome o
+some_there None x h = cc
+some_there (Some y) x h = refl
+
+pub same_inside : {X : Type 0} (o : Option X) (y x : X) → o ≡ Some y → option_map (λ z. z) o ≡ Some x → y ≡ x
+same_inside None y x is h = cc
+same_inside (Some z) y x is h = cc
+
+-- a test of what a list was made of
+pub any_mapped : {X Y : Type 0} (f : X → Y) (p : Y → Bool) (xs : List X) → list_any (λ x. p (f x)) xs ≡ list_any p (map f xs)
+any_mapped f p [] = refl
+any_mapped f p (x ∷ xs) = ap (λ b. p (f x) || b) (any_mapped f p xs)
+
 -- of the numbers from a on at most one is v, and none if v is below a
 count_below : (v a n : ℕ) → v < a → count_by (λ j. eqb v j) (range_with_len a n) ≡ 0
 count_below v a zero h = refl
@@ -89,17 +110,6 @@ count_equal v a (suc n) = by (eqb v a) refl (count_equal v (a + 1) n)
 -- ---- what the slots read
 
 module _ {T : Type 0} where
-  -- whether a move that is open in a slot sees the place at index j of these
-  abbrev pub sees_place : List (Place T) → ℕ → SlotState → Bool
-  sees_place ps j idle = false
-  sees_place ps j (opened snapshot reads written) = is_at j (visible snapshot ps)
-  sees_place ps j sent = false
-  sees_place ps j (ruled outcome) = false
-
-  -- whether a move that is open in one of the slots sees the place at index j
-  abbrev pub read_by_any : List SlotState → List (Place T) → ℕ → Bool
-  read_by_any slots ps j = list_any (sees_place ps j) slots
-
   -- a slot reads at most one place
   one_read : (slot : SlotState) (ps : List (Place T)) (n : ℕ) → count_by (λ j. sees_place ps j slot) (range_with_len 0 n) ≤ 1
   one_read idle ps n = omega (arith, count_none (range_with_len 0 n))
@@ -119,10 +129,6 @@ module _ {T : Type 0} where
       let all = count_or (λ j. sees_place ps j slot) (read_by_any slots ps) (range_with_len 0 n) in
       omega arith
 
-  -- the first index below n that no open move in these slots would read
-  unfoldable pub first_unread : List SlotState → List (Place T) → ℕ → ℕ
-  first_unread slots ps n = position_or_len (λ j. not (read_by_any slots ps j)) (range_with_len 0 n)
-
   unread_there : (slots : List SlotState) (ps : List (Place T)) (n : ℕ) → length slots < n →
       (first_unread slots ps n < n) × (read_by_any slots ps (first_unread slots ps n) ≡ false)
   unfolding first_unread
@@ -135,10 +141,6 @@ module _ {T : Type 0} where
       let below : j < n = omega arith in
       let at : get_or js j 0 ≡ j = get_or-range_with_len 0 n j 0 below ∙ omega arith in
       (below, ap (read_by_any slots ps) (sym at) ∙ not-true _ (passes_at_first (λ i. not (read_by_any slots ps i)) js 0 there))
-
-  -- the first index of a node's five places that no open move in these slots would read
-  unfoldable pub first_spare : List SlotState → List (Place T) → ℕ
-  first_spare slots ps = first_unread slots ps places_each
 
   -- a place that no open move sees is spare
   pub unseen_is_spare : (nodes : List ℕ) (share : Share T) (n j : ℕ) → j < places_each →
@@ -167,9 +169,24 @@ module _ {T : Type 0} where
       let (below, unread) = unread_there slots ps places_each (omega arith) in
       unseen_is_spare nodes share n (first_spare slots ps) below (none_pass (sees_place ps (first_spare slots ps)) slots unread)
 
-  -- the first spare place of the node n at a suite
-  abbrev pub spare_of : List ℕ → Share T → ℕ → ℕ
-  spare_of nodes share n = first_spare share.suite.slots (versions_of nodes share.places n)
+  -- the search for it finds it
+  pub spare_found : (slots : List SlotState) (ps : List (Place T)) → length slots ≤ 4 →
+      find (λ j. not (read_by_any slots ps j)) (range_with_len 0 5) ≡ Some (first_spare slots ps)
+  unfolding first_spare first_unread
+  spare_found slots ps few =
+      let test : ℕ → Bool = λ j. not (read_by_any slots ps j) in
+      let js = range_with_len 0 5 in
+      let k = position_or_len test js in
+      let below : k < 5 = (unread_there slots ps 5 (omega arith)).0 in
+      let long = length-range_with_len 0 5 in
+      find_at test js
+      ∙ slice_get-get_or js k 0 (omega arith)
+      ∙ ap Some (get_or-range_with_len 0 5 k 0 below ∙ omega arith)
+
+  -- it is one of the five
+  pub spare_within : (slots : List SlotState) (ps : List (Place T)) → length slots ≤ 4 → first_spare slots ps < 5
+  unfolding first_spare
+  spare_within slots ps few = (unread_there slots ps 5 (omega arith)).0
 
   -- with these, a take of any ruling overwrites spare places
   pub spares_of : (S : SummaryKind) (K : SettingKind T) (nodes : List ℕ) (share : Share T) → length share.suite.slots ≤ 4 → (ruling : Ruling) →

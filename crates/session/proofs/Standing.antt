@@ -8,7 +8,8 @@ use Rattle.messages.specs.Reading.{read_answer, summary_in}
 use Rattle.messages.specs.declared.fault.Fault.{Fault}
 use Rattle.messages.specs.declared.parts.Header.{Header}
 use Rattle.session.proofs.Finding.{found_if, found_some}
-use Rattle.session.proofs.Spares.{spare_of, spare_exists}
+use Rattle.session.proofs.Spares.{spare_exists}
+use Rattle.session.specs.Choosing.{spare_of}
 use Rattle.session.specs.Commits.{is_newer}
 use Rattle.session.specs.Promises.{RulesStand}
 use Rattle.session.specs.Shares.{Share}

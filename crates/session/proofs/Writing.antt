@@ -16,10 +16,10 @@ use Rattle.std.specs.List.{between, position_or_len}
 
 module _ {T : Type 0} where
   -- the place of a node's write among these, or how many they are
-  abbrev place_in : List (Write T) → ℕ → ℕ
+  abbrev pub place_in : List (Write T) → ℕ → ℕ
   place_in ws n = position_or_len (λ w. eqb w.node n) ws
 
-  place_within : (ws : List (Write T)) (n : ℕ) → place_in ws n ≤ length ws
+  pub place_within : (ws : List (Write T)) (n : ℕ) → place_in ws n ≤ length ws
   place_within [] n = omega arith
   place_within (w ∷ ws) n = by (eqb w.node n) (place_within ws n)
     where
@@ -28,7 +28,7 @@ module _ {T : Type 0} where
       by false h = omega arith
 
   -- a node that has a write has it in one of the places
-  place_there : (ws : List (Write T)) (n : ℕ) → is_some (own ws n) ≡ true → place_in ws n < length ws
+  pub place_there : (ws : List (Write T)) (n : ℕ) → is_some (own ws n) ≡ true → place_in ws n < length ws
   place_there [] n h = cc
   place_there (w ∷ ws) n h = by (eqb w.node n) (place_there ws n) h
     where

@@ -8,7 +8,8 @@
 --   commit_answer
 --   with_message     the line with the message of the move in a slot
 --   commit_leaves
-use Rattle.std.specs.Prelude.{ℕ, Bool, if◌then◌else◌, List, Some, None, Ok, Err, Option, Result, find, ◌==◌, nat_lt}
+--   UnlessSent       what holds unless a message was sent
+use Rattle.std.specs.Prelude.{ℕ, Bool, if◌then◌else◌, List, Some, None, Ok, Err, Option, Result, find, ◌==◌, nat_lt, ⊤}
 use Rattle.lines.specs.Lines.{LineState, offer_answer, offered}
 use Rattle.messages.specs.Composing.{message}
 use Rattle.messages.specs.declared.parts.Write.{Write}
@@ -68,3 +69,8 @@ module _ {T : Type 0} (S : SummaryKind) (K : SettingKind T) where
   commit_leaves u s Sent share = record (with_slot share s sent) { line = with_message share u s (slot_of share s) }
   commit_leaves u s (ReadOnly snapshot) share = with_slot share s idle
   commit_leaves u s (Clash n) share = with_slot share s idle
+
+-- what holds unless a commit is answered with "sent"
+abbrev pub UnlessSent : Result CommitAnswer Refusal → Type 0 → Type 0
+UnlessSent (Ok Sent) P = ⊤
+UnlessSent answer P = P

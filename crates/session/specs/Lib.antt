@@ -6,6 +6,8 @@ pub mod Commits
 pub mod Takes
 pub mod Making
 pub mod Calls
+pub mod Choosing
 pub mod Promises
 pub mod Shapes
 pub mod Slotted
+pub mod Steps

@@ -5,6 +5,7 @@
 --   SuiteState      a suite
 --   SessionState    a session
 --   World           what every call is handed: the session, both memories, and what the line means
+--   unfit_sizes     whether memories of these sizes, or a line of this limit, are not what so many suites and nodes need
 --   unfit           whether the memories or the line are not of the size that the session needs
 --   after           what is there after a call: what an accepted one leaves, or what was there before
 --   After           the same, where it is not only one thing that an accepted call may leave
@@ -45,11 +46,13 @@ pub record World (T : Type 0) : Type 0 where
 
 -- whether the setting places are not 5 for each node of each suite, the write places not 64 for each suite, or the line has no
 -- place or too many
+abbrev pub unfit_sizes : ℕ → ℕ → ℕ → ℕ → ℕ → Bool
+unfit_sizes suites nodes places writes limit =
+    not (places == suites * nodes * places_each) || not (writes == suites * (slots_each * most_writes)) || unusable limit
+
+-- the same of a world
 abbrev pub unfit : {T : Type 0} → World T → Bool
-unfit w =
-    not (length w.places == length w.session.suites * length w.session.nodes * places_each)
-    || not (length w.writes == length w.session.suites * (slots_each * most_writes))
-    || unusable w.line.limit
+unfit w = unfit_sizes (length w.session.suites) (length w.session.nodes) (length w.places) (length w.writes) w.line.limit
 
 -- what is there after a call that was answered so: what an accepted call leaves or, after a refused one, what was there before
 abbrev pub after : {A X : Type 0} → Result A Refusal → (A → X) → X → X

@@ -8,12 +8,12 @@ mod tests;
 use std::io::{self, Write};
 
 use super::random::Random;
-use super::slips::limit_lines;
+use super::slips::{field_lines, limit_lines};
 use super::Lines;
 use crate::lines::{Kind, PLACE};
 use crate::script::{hex, LONGEST_LINE};
 use cases::{FETCHED, LENGTHS, LONG, MOST_FEW, PATTERNS, SIZES};
-use malformed::{field_lines, LIMITS};
+use malformed::{COMMANDS, LIMITS};
 
 /// The families of cases.
 #[derive(Clone, Copy, Debug, PartialEq, Eq)]
@@ -140,7 +140,7 @@ impl Stream {
             self.lines.say(line);
             self.lines.say("fetch 1 4");
         }
-        for line in field_lines() {
+        for line in field_lines(&COMMANDS) {
             self.lines.say(line);
         }
         for line in limit_lines(&LIMITS, 0) {

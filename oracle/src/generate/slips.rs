@@ -190,6 +190,30 @@ pub fn limit_lines(limits: &[Limit], turn: usize) -> Vec<String> {
     lines
 }
 
+/// Every command with each of its fields missing, empty, or not fitting, and
+/// with something in front of it or left over.
+pub fn field_lines(commands: &[&str]) -> Vec<String> {
+    let mut lines = Vec::new();
+    for line in commands {
+        let fields: Vec<&str> = line.split(' ').collect();
+        for place in 0..fields.len() {
+            for other in [&[][..], &[""], &["a"], &["1:"], &["/1"], &["-1"]] {
+                let (before, after) = (&fields[..place], &fields[place + 1..]);
+                lines.push([before, other, after].concat().join(" "));
+            }
+        }
+        for end in [" ", "  ", " 1", "\r", "\t"] {
+            lines.push(format!("{line}{end}"));
+        }
+        for front in [" ", "\t", "\u{feff}"] {
+            lines.push(format!("{front}{line}"));
+        }
+        lines.push(line.to_uppercase());
+        lines.push(line[..1].to_uppercase() + &line[1..]);
+    }
+    lines
+}
+
 /// The line with a slip in its fields.
 fn with_other_fields(
     random: &mut Random,

@@ -10,7 +10,7 @@ use Rattle.history.specs.Runs.{Run, Made}
 use Rattle.history.specs.declared.call.Answer.{Answer}
 use Rattle.lines.specs.Lines.{with_at, waiting_up_to}
 use Rattle.refusals.specs.declared.Refusal.{Refusal}
-use Rattle.session.proofs.Spares.{first_spare, first_unread}
+use Rattle.session.specs.Choosing.{first_spare, first_unread}
 use Rattle.session.specs.States.{World}
 use Rattle.session.specs.Versions.{best, versions_of, with_version}
 use Rattle.settings.specs.Colours.{colours}

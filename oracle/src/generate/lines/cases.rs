@@ -1,9 +1,9 @@
 //! The cases of each family, way by way.
 
-use super::malformed::{field_lines, LIMITS, VOCABULARY};
+use super::malformed::{COMMANDS, LIMITS, VOCABULARY};
 use super::{Family, Stream, KINDS};
 use crate::generate::padded;
-use crate::generate::slips::{self, limit_lines, spoilt_line};
+use crate::generate::slips::{self, field_lines, limit_lines, spoilt_line};
 use crate::lines::{Kind, LONGEST_MESSAGE, MOST_PLACES, PLACE};
 use crate::script::LONGEST_LINE;
 
@@ -287,7 +287,7 @@ impl Stream {
 
     pub fn fields_case(&mut self) {
         self.make_any();
-        for line in field_lines() {
+        for line in field_lines(&COMMANDS) {
             self.lines.say(line);
         }
         self.settle(1);

@@ -122,7 +122,7 @@ pub const LIMITS: [Limit; 22] = [
 ];
 
 /// A line of each command.
-const COMMANDS: [&str; 7] = [
+pub const COMMANDS: [&str; 7] = [
     "first-come 2336 7",
     "turn 2336 7",
     "offer 1 aa",
@@ -131,30 +131,6 @@ const COMMANDS: [&str; 7] = [
     "fetch 1 4",
     "agreed",
 ];
-
-/// Every command with each of its fields missing, empty, or not fitting, and
-/// with something in front of it or left over.
-pub fn field_lines() -> Vec<String> {
-    let mut lines = Vec::new();
-    for line in COMMANDS {
-        let fields: Vec<&str> = line.split(' ').collect();
-        for place in 0..fields.len() {
-            for other in [&[][..], &[""], &["a"], &["1:"], &["/1"], &["-1"]] {
-                let (before, after) = (&fields[..place], &fields[place + 1..]);
-                lines.push([before, other, after].concat().join(" "));
-            }
-        }
-        for end in [" ", "  ", " 1", "\r", "\t"] {
-            lines.push(format!("{line}{end}"));
-        }
-        for front in [" ", "\t", "\u{feff}"] {
-            lines.push(format!("{front}{line}"));
-        }
-        lines.push(line.to_uppercase());
-        lines.push(line[..1].to_uppercase() + &line[1..]);
-    }
-    lines
-}
 
 /// A line of the right form, of any of the seven words.
 fn good_line(random: &mut Random) -> String {

@@ -9,7 +9,7 @@ use Rattle.cases.specs.WrongRules.{Rules, RunBy, reads_newest, overwrites_oldest
 use Rattle.history.specs.Laws.{Lawful, Law}
 use Rattle.history.specs.Runs.{Made}
 use Rattle.lines.specs.Lines.{with_at, waiting_up_to}
-use Rattle.session.proofs.Spares.{first_spare, first_unread}
+use Rattle.session.specs.Choosing.{first_spare, first_unread}
 use Rattle.session.specs.States.{World}
 use Rattle.session.specs.Versions.{best, versions_of, with_version}
 use Rattle.settings.specs.Colours.{colours}

@@ -1,0 +1,9 @@
+pub mod Examples
+pub mod Forms
+pub mod Limits
+pub mod Nodes
+pub mod Numerals
+pub mod Ranges
+pub mod Replying
+pub mod Returning
+pub mod Words
