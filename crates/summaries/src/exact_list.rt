@@ -67,11 +67,13 @@ impl Summary for ExactList {
     fn query(region: &[u8], node: u64) -> Result<bool, Refusal> {
         let bytes: &Bytes = region.as_array().ok_or(Refusal::SummarySize)?;
         let (numbers, _) = bytes[1..].as_chunks();
+        let count = usize::from(bytes[0]).min(READS);
+        // turning the node once spares turning each number
+        let turned = u64::from_le_bytes(node.to_be_bytes());
         Ok(
-            numbers
+            numbers[..count]
                 .iter()
-                .take(usize::from(bytes[0]))
-                .any(|number| u64::from_be_bytes(*number) == node),
+                .any(|number| u64::from_le_bytes(*number) == turned),
         )
     }
 }
