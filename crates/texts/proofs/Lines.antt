@@ -1,17 +1,18 @@
--- A line that is read from an input, byte by byte.
-use Rattle.std.proofs.Common.{◌≡◌, ◌≢◌, ℕ, zero, suc, ◌+◌, ◌-◌, ◌<◌, ◌≤◌, Bool, true, false, cond, not, ◌&&◌, ltb, List, [], ◌∷◌, ◌++◌, All, length, get_or, take, Some, None, Option, Result, Ok, Err, IfSome, OnSome, OnErr, sym, refl, ap, ap₂, subst, true≢false, ◌∙◌, arith, append-nil, length-append, length-take, take_all, eq-eqb, ne_eqb}
+-- A line that is read from an input, in the pieces that the input shows.
+use Rattle.std.proofs.Common.{◌≡◌, ◌≢◌, ℕ, zero, suc, ◌+◌, ◌-◌, ◌<◌, ◌≤◌, Bool, true, false, cond, not, ◌&&◌, ltb, List, [], ◌∷◌, ◌++◌, All, length, get_or, take, Some, None, Option, IfSome, OnSome, sym, refl, ap, ap₂, true≢false, ◌∙◌, arith, append-nil, append_assoc, length-append, eqb-true, length-take, take_all, eq-eqb, ne_eqb}
 use lib.Seq.{take-append_seam}
-use Rattle.std.proofs.lemmas.List.{take-append-le}
-use Rattle.std.proofs.lemmas.Option.{IfSome_then}
-use Rattle.std.specs.List.{slice_get}
-use Rattle.std.specs.Io.{StartsWith}
-use Rattle.std.specs.Io.KnownBytes.{Keeps, Consumes, IsAtEnd}
-use Rattle.std.specs.Io.BufRead.{strip_last, first_piece, DropsThrough, DropsConsumable}
-use Rattle.std.proofs.KnownBytes.{Consumes-nil, Consumes-kept, Consumes-whole}
-use Rattle.std.proofs.BufReadLemmas.{Consumes_through, Consumes_shown, take_through_nonempty}
-use Rattle.std.proofs.lemmas.List.Elements.{All-get_or}
+use Rattle.std.proofs.lemmas.List.{take-append-le, take_more, get_or-take}
+use Rattle.std.proofs.lemmas.List.Quantifiers.{position-Some}
+use Rattle.std.proofs.lemmas.List.Sums.{prefix_len_passes}
+use Rattle.std.proofs.lemmas.Option.{IfSome_then, none-some}
+use Rattle.std.specs.List.{position, position_or_len}
+use Rattle.std.specs.Io.KnownBytes.{Keeps, Consumes, IsAtEnd, prepend_known}
+use Rattle.std.specs.Io.BufRead.{strip_last, first_piece, DropsThrough}
+use Rattle.std.proofs.KnownBytes.{Consumes-nil, Consumes-kept, Consumes-trans, Consumes-whole}
+use Rattle.std.proofs.BufReadLemmas.{Consumes_through, take_through_nonempty}
+use Rattle.std.proofs.lemmas.List.Elements.{All-append, All-get_or}
 use Rattle.std.proofs.lemmas.Bool.{lt-ltb, le-ltb, ltb-true, ltb-false}
-use Rattle.texts.specs.Buffers.{Gathered, nothing_gathered, gathered_of, gathered_more}
+use Rattle.texts.specs.Buffers.{Gathered, nothing_gathered, gathered_of, gathered_more, gathered_more_all, is_newline}
 use Rattle.texts.specs.Texts.{is_empty}
 
 -- whether a byte is no newline
@@ -45,6 +46,63 @@ gathered_of_more most b line = go (ltb (length (take most line)) most) refl
         let full : most ≤ length line = omega (arith, ltb-false _ _ e, length-take most line) in
         ap₂ (λ bs t. record { bytes = bs; most = most; over = t })
         (sym (take-append-le most line _ full)) (sym (lt-ltb most _ (omega (arith, longer))))
+
+-- of some bytes more
+pub gathered_of_all : (most : ℕ) (line bs : List ℕ) → gathered_more_all (gathered_of most line) bs ≡ gathered_of most (line ++ bs)
+gathered_of_all most line [] = ap (gathered_of most) (sym (append-nil line))
+gathered_of_all most line (b ∷ bs) =
+    ap (λ g. gathered_more_all g bs) (gathered_of_more most b line)
+    ∙ gathered_of_all most (line ++ b ∷ []) bs
+    ∙ ap (gathered_of most) (append_assoc line (b ∷ []) bs)
+
+-- of bytes for which there is room
+pub more_all_within : (bytes : List ℕ) (most : ℕ) (over : Bool) (bs : List ℕ) → length bs ≤ most - length bytes →
+    gathered_more_all (record { bytes = bytes; most = most; over = over }) bs
+    ≡ record { bytes = bytes ++ bs; most = most; over = over }
+more_all_within bytes most over [] h = ap (λ l. record { bytes = l; most = most; over = over }) (sym (append-nil bytes))
+more_all_within bytes most over (b ∷ bs) h =
+    ap (λ t. gathered_more_all (record { bytes = cond t (bytes ++ b ∷ []) bytes; most = most; over = cond t over true }) bs)
+    (lt-ltb (length bytes) most (omega arith))
+    ∙ more_all_within (bytes ++ b ∷ []) most over bs (omega (arith, length-append bytes (b ∷ [])))
+    ∙ ap (λ l. record { bytes = l; most = most; over = over }) (append_assoc bytes (b ∷ []) bs)
+
+-- of bytes for which there is no room at all, once there were more
+more_all_full : (bytes : List ℕ) (most : ℕ) (bs : List ℕ) → most ≤ length bytes →
+    ◌≡◌ {A = Gathered} (gathered_more_all (record { bytes = bytes; most = most; over = true }) bs)
+    (record { bytes = bytes; most = most; over = true })
+more_all_full bytes most [] h = refl
+more_all_full bytes most (b ∷ bs) h =
+    ap (λ t. gathered_more_all (record { bytes = cond t (bytes ++ b ∷ []) bytes; most = most; over = cond t true true }) bs)
+    (le-ltb (length bytes) most h)
+    ∙ more_all_full bytes most bs h
+
+-- of more bytes than there is room for
+pub more_all_past : (bytes : List ℕ) (most : ℕ) (over : Bool) (bs : List ℕ) → most - length bytes < length bs →
+    gathered_more_all (record { bytes = bytes; most = most; over = over }) bs
+    ≡ record { bytes = bytes ++ take (most - length bytes) bs; most = most; over = true }
+more_all_past bytes most over [] h = absurd (omega arith)
+more_all_past bytes most over (b ∷ bs) h = go (ltb (length bytes) most) refl (more_all_past (bytes ++ b ∷ []) most over bs)
+  where
+    go : (room : Bool) → ltb (length bytes) most ≡ room →
+        (most - length (bytes ++ b ∷ []) < length bs →
+        ◌≡◌ {A = Gathered}
+        (gathered_more_all (record { bytes = bytes ++ b ∷ []; most = most; over = over }) bs)
+        (record { bytes = (bytes ++ b ∷ []) ++ take (most - length (bytes ++ b ∷ [])) bs; most = most; over = true })) →
+        ◌≡◌ {A = Gathered}
+        (gathered_more_all (record { bytes = cond room (bytes ++ b ∷ []) bytes; most = most; over = cond room over true }) bs)
+        (record { bytes = bytes ++ take (most - length bytes) (b ∷ bs); most = most; over = true })
+    go true e rest =
+        let longer : length (bytes ++ b ∷ []) ≡ length bytes + 1 = length-append bytes (b ∷ []) in
+        let one : suc (most - length (bytes ++ b ∷ [])) ≡ most - length bytes = omega (arith, ltb-true _ _ e) in
+        rest (omega (arith, ltb-true _ _ e))
+        ∙ ap (λ l. record { bytes = l; most = most; over = true })
+        (append_assoc bytes (b ∷ []) (take (most - length (bytes ++ b ∷ [])) bs)
+        ∙ ap (λ k. bytes ++ take k (b ∷ bs)) one)
+    go false e rest =
+        let none : 0 ≡ most - length bytes = omega (arith, ltb-false _ _ e) in
+        more_all_full bytes most bs (omega (arith, ltb-false _ _ e))
+        ∙ ap (λ l. record { bytes = l; most = most; over = true })
+        (sym (append-nil bytes) ∙ ap (λ k. bytes ++ take k (b ∷ bs)) none)
 
 -- whether that is nothing
 is_empty_gathered : (most : ℕ) (line : List ℕ) → (is_empty (take most line) && not (ltb most (length line))) ≡ is_empty line
@@ -82,25 +140,46 @@ strip_none (b ∷ bs) all =
 
 -- ---- what the input has left
 
-pub on_err : {T E : Type 0} (r : Result T E) (P : Type 0) → P → OnErr r P
-on_err (Ok x) P p = tt
-on_err (Err e) P p = p
+-- `fill_buf` showed none
+pub none_shown : (b : Option (List ℕ)) (shown : List ℕ) → length shown ≡ 0 → IfSome b (λ xs. length shown ≡ 0 → xs ≡ []) → IsAtEnd b
+none_shown None shown none end = tt
+none_shown (Some xs) shown none end = end none
 
--- what `fill_buf` showed of the bytes b, of which c are kept and d are left once one byte was consumed
-pub first_shown : (b c d : Option (List ℕ)) (most : Option ℕ) (shown : List ℕ) (x : ℕ) → Some x ≡ slice_get shown 0 →
-    IfSome b (λ xs. StartsWith xs shown) → IfSome b (λ xs. length shown ≡ 0 → xs ≡ []) → Keeps b c →
-    IfSome b (λ _. IfSome most (λ n. length shown ≤ n)) → DropsConsumable c d most 1 → Consumes b d (x ∷ [])
-first_shown b c d most [] x e front end kept fits drops = let z : ◌≡◌ {A = ℕ} 0 1 = cc in absurd (omega arith)
-first_shown b c d most (y ∷ ys) x e front end kept fits drops =
-    let same : y ∷ [] ≡ x ∷ [] = cc in
-    subst (Consumes b d) same (Consumes_shown b c d most (y ∷ ys) 1 (omega arith) front end kept fits drops).0
+-- ---- the first newline of what it showed
 
--- it showed none
-pub none_shown : (b : Option (List ℕ)) (shown : List ℕ) → None ≡ slice_get shown 0 →
-    IfSome b (λ xs. length shown ≡ 0 → xs ≡ []) → IsAtEnd b
-none_shown None shown e end = tt
-none_shown (Some xs) [] e end = end refl
-none_shown (Some xs) (y ∷ ys) e end = let z : ◌≡◌ {A = ℕ} 0 1 = cc in absurd (omega arith)
+-- before it
+pub before_newline : (xs : List ℕ) (i : ℕ) → position is_newline xs ≡ Some i → All NoNewline (take i xs)
+before_newline xs i e = λ k d h newline.
+    let within : k < i = omega (arith, length-take i xs) in
+    let first = position-Some is_newline xs i d e in
+    absurd (true≢false (sym (eq-eqb _ _ (sym (get_or-take i xs k d within) ∙ newline)) ∙ first.2 k within))
+
+-- with it
+pub through_newline : (xs : List ℕ) (i : ℕ) → position is_newline xs ≡ Some i → take (i + 1) xs ≡ take i xs ++ 10 ∷ []
+through_newline xs i e =
+    let first = position-Some is_newline xs i 0 e in
+    take_more xs i 0 first.0 ∙ ap (λ b. take i xs ++ b ∷ []) (eqb-true _ _ first.1)
+
+-- where there is none
+pub no_newline : (xs : List ℕ) → position is_newline xs ≡ None → All NoNewline xs
+no_newline xs e = go (ltb (position_or_len is_newline xs) (length xs)) refl e
+  where
+    go : (t : Bool) → ltb (position_or_len is_newline xs) (length xs) ≡ t →
+        cond t (Some (position_or_len is_newline xs)) None ≡ None → All NoNewline xs
+    go true within none = absurd (none-some _ (sym none))
+    go false past none = λ k d h newline.
+        let other = prefix_len_passes (λ b. not (is_newline b)) xs k d (omega (arith, ltb-false _ _ past)) in
+        absurd (true≢false (sym other ∙ ap not (eq-eqb _ _ newline)))
+
+-- a piece and the newline behind it, consumed together, were consumed one after the other
+piece_and_newline : (b c : Option (List ℕ)) (piece : List ℕ) → Consumes b c (piece ++ 10 ∷ []) →
+    Consumes b (prepend_known (10 ∷ []) c) piece × Consumes (prepend_known (10 ∷ []) c) c (10 ∷ [])
+piece_and_newline None None piece h = (tt, tt)
+piece_and_newline None (Some z) piece h = (tt, refl)
+piece_and_newline (Some y) None piece h = absurd h
+piece_and_newline (Some y) (Some z) piece h = (h ∙ append_assoc piece (10 ∷ []) z, refl)
+
+-- ---- the line that was read
 
 -- g is gathered of the line that was read of the bytes a, of which c are left
 abbrev pub ReadsLine : Option (List ℕ) → Option (List ℕ) → ℕ → Gathered → Bool → Type 0
@@ -116,16 +195,19 @@ not_empty : (xs : List ℕ) → 0 < length xs → true ≡ not (is_empty xs)
 not_empty [] h = absurd (omega arith)
 not_empty (x ∷ xs) h = refl
 
-pub reads_to_newline : (a b c : Option (List ℕ)) (most : ℕ) (g : Gathered) (line : List ℕ) → All NoNewline line →
-    g ≡ gathered_of most line → Consumes a b line → Consumes b c (10 ∷ []) → ReadsLine a c most g true
-reads_to_newline a b c most g line all is read newline =
-    let through = Consumes_through 10 a b c line (10 ∷ []) read all newline (λ k d h _. absurd (omega arith)) (λ _. refl)
-    (λ z. absurd (omega arith)) in
+pub reads_to_newline : (a b c : Option (List ℕ)) (most : ℕ) (g : Gathered) (line piece : List ℕ) → All NoNewline line →
+    All NoNewline piece → g ≡ gathered_of most (line ++ piece) → Consumes a b line → Consumes b c (piece ++ 10 ∷ []) →
+    ReadsLine a c most g true
+reads_to_newline a b c most g line piece all none is read last =
+    let whole = line ++ piece in
+    let apart = piece_and_newline b c piece last in
+    let through = Consumes_through 10 a _ c whole (10 ∷ []) (Consumes-trans a b _ line piece read apart.0)
+    (All-append NoNewline line piece all none) apart.1 (λ k d h _. absurd (omega arith)) (λ _. refl) (λ z. absurd (omega arith)) in
     record {
-      line = IfSome_then a through.0 (λ xs e. is ∙ ap (gathered_of most) (sym (strip_newline line) ∙ ap (strip_last 10) e));
+      line = IfSome_then a through.0 (λ xs e. is ∙ ap (gathered_of most) (sym (strip_newline whole) ∙ ap (strip_last 10) e));
       rest = through.1;
       some = IfSome_then a through.0 (λ xs e.
-          not_empty xs (take_through_nonempty 10 xs (omega (arith, ap length e, length-append line (10 ∷ [])))));
+          not_empty xs (take_through_nonempty 10 xs (omega (arith, ap length e, length-append whole (10 ∷ [])))));
       none = λ e. absurd (true≢false e);
     }
 

@@ -71,14 +71,21 @@ hex_within_of : (room : ℕ) (text bs : List ℕ) → Some bs ≡ hex_of text �
 hex_within_of room text bs e =
     ap₂ (λ xs o. cond (leb (length xs) room) o None) (cond_some _ _ _ (sym e)).1 (sym e)
 
-module _ (room : ℕ) (text : List ℕ) (ps : List (List ℕ)) (e : Some (map pair_value ps) ≡ hex_of text) where
-  pub hex_within_not : room < length ps → hex_within room text ≡ None
-  hex_within_not h =
-      hex_within_of room text _ e ∙ cond-false (leb (length (map pair_value ps)) room) _ _ (lt-leb _ _ (omega (arith, length-map ps pair_value)))
+pub hex_within_some : (room : ℕ) (text : List ℕ) (ps : List (List ℕ)) → Some (map pair_value ps) ≡ hex_of text →
+    length ps ≤ room → hex_within room text ≡ Some (map pair_value ps)
+hex_within_some room text ps e h =
+    hex_within_of room text _ e ∙ cond-true (leb (length (map pair_value ps)) room) _ _ (le-leb _ _ (omega (arith, length-map ps pair_value)))
 
-  pub hex_within_some : length ps ≤ room → hex_within room text ≡ Some (map pair_value ps)
-  hex_within_some h =
-      hex_within_of room text _ e ∙ cond-true (leb (length (map pair_value ps)) room) _ _ (le-leb _ _ (omega (arith, length-map ps pair_value)))
+-- a byte for two digits
+length_pairs : (text : List ℕ) → length (pairs text) ≡ length text / 2
+length_pairs [] = refl
+length_pairs (a ∷ []) = refl
+length_pairs (a ∷ b ∷ bs) = omega (arith, length_pairs bs)
+
+-- nothing, if there is no room for as many bytes
+pub hex_within_not : (room : ℕ) (text : List ℕ) → room < length text / 2 → hex_within room text ≡ None
+hex_within_not room text h =
+    cond-false (leb (length (pairs text)) room) _ _ (lt-leb _ _ (omega (arith, length_pairs text)))
 
 -- one more byte is written over the front of d
 pub write_more : (d out : List ℕ) (ps : List (List ℕ)) (i byte : ℕ) → i < length d → i < length ps →

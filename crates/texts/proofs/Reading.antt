@@ -19,7 +19,7 @@ read_on None bs = None
 read_on (Some n) [] = Some n
 read_on (Some n) (b ∷ bs) = read_on (digit_after n b) bs
 
-read_on_more : (n b : ℕ) (bs all : List ℕ) (o : Option ℕ) → all ≡ b ∷ bs → o ≡ digit_after n b → read_on o bs ≡ read_on (Some n) all
+pub read_on_more : (n b : ℕ) (bs all : List ℕ) (o : Option ℕ) → all ≡ b ∷ bs → o ≡ digit_after n b → read_on o bs ≡ read_on (Some n) all
 unfolding read_on
 read_on_more n b bs all o e is = ap (λ m. read_on m bs) is ∙ sym (ap (read_on (Some n)) e)
 

@@ -1,9 +1,13 @@
 -- A line, cut at its first space.
-use Rattle.std.proofs.Common.{◌≡◌, ℕ, suc, ◌+◌, ◌<◌, ◌≤◌, Bool, true, false, cond, not, eqb, ltb, List, [], ◌∷◌, length, take, drop, is_some, Some, None, Option, sym, refl, ap, ◌∙◌, ap₂, arith, Bor}
+use Rattle.std.proofs.Common.{◌≡◌, ℕ, suc, ◌+◌, ◌<◌, ◌≤◌, Bool, true, false, cond, not, eqb, ltb, List, [], ◌∷◌, length, take, drop, is_some, Some, None, Option, MatchOption, sym, refl, ap, ◌∙◌, ap₂, arith, Bor}
 use Rattle.std.specs.List.{between, prefix_len, position}
 use Rattle.std.proofs.lemmas.List.{take_rest}
+use Rattle.std.specs.Iterator.{Yields, FindsPosition}
+use Rattle.std.specs.Slice.Iter.{iter_steps}
+use Rattle.std.specs.declared.slice.Iter.{Iter}
 use Rattle.std.proofs.lemmas.Bool.{ltb-true, ltb-false}
 use Rattle.std.proofs.lemmas.Option.{cond_some, none-some}
+use denote.Param.Members.{Mut, Called}
 use Rattle.texts.specs.Texts.{is_empty, before_first, fields_of, fields_left}
 
 -- whether a byte is no space
@@ -82,3 +86,24 @@ none_left None true e = refl
 none_left None false e = e
 none_left (Some line) true e = e ∙ sym (fields_of_some line.now)
 none_left (Some line) false e = sym (fields_of_some line.now)
+
+-- ---- what is left behind the place that `position` found
+
+behind_after : (bs : List (Bor ℕ)) (b : Bor ℕ) (s t u : Iter ℕ) → Yields iter_steps s bs t → iter_steps t (Some b) u →
+    u.rest.now ≡ drop (suc (length bs)) s.rest.now
+behind_after [] b s t u yields step = ap (drop 1) (sym step ∙ ap (λ l. l.rest.now) (sym yields))
+behind_after (c ∷ bs) b s t u yields step =
+    behind_after bs b yields.0 t u yields.2 step ∙ ap (drop (suc (suc (length bs)))) (sym yields.1)
+
+module _ {F : Type 0} {g : Mut F (Bor ℕ × Unit {0}) Bool} where
+  pub behind_position : (s u : Iter ℕ) (f : F) (r : Option ℕ) (i : ℕ) → FindsPosition iter_steps g s f r u → r ≡ Some i →
+      u.rest.now ≡ drop (i + 1) s.rest.now
+  behind_position s u f r i d e = go d.0 d.1 d.2 d.3.0 d.3.1 d.3.2 d.5
+    where
+      go : (bs : List (Bor ℕ)) (o : Option (Bor ℕ)) (h : F) (t : Iter ℕ) → Yields iter_steps s bs t → iter_steps t o u →
+          MatchOption o (r ≡ None) (λ b. (r ≡ Some (length bs)) × ((k : F) × Called g h (b, tt) true k)) → u.rest.now ≡ drop (i + 1) s.rest.now
+      go bs None h t yields step end = absurd (none-some _ (sym end ∙ e))
+      go bs (Some b) h t yields step end =
+          let count : length bs ≡ i = cc (end.0, e) in
+          let next : suc (length bs) ≡ i + 1 = omega arith in
+          behind_after bs b s t u yields step ∙ ap (λ j. drop j s.rest.now) next

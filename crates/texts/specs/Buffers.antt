@@ -7,8 +7,11 @@
 --   Gathers            what a read of a line gathers, whatever its answer
 --   gathered_more      one byte more
 --   after_push         what is gathered after a push that was answered so
+--   gathered_more_all  some bytes more, each in its turn
+--   after_extend       what is gathered after they were all taken at once, if that was answered so
+--   is_newline         whether a byte ends a line
 --   whole_line         the line, unless there were more bytes than may be kept
-use Rattle.std.specs.Prelude.{◌≡◌, ◌≢◌, ℕ, Bool, true, false, if◌then◌else◌, List, [], ◌∷◌, ◌++◌, length, take, All, Some, None, Ok, Err, OnErr, vec_items, Option, Result, nat_lt}
+use Rattle.std.specs.Prelude.{◌≡◌, ◌≢◌, ℕ, Bool, true, false, if◌then◌else◌, List, [], ◌∷◌, ◌++◌, length, take, All, Some, None, Ok, Err, OnErr, vec_items, Option, Result, nat_lt, ◌==◌}
 use Rattle.std.specs.Io.KnownBytes.{Consumes}
 use Rattle.std.specs.declared.alloc.AllocError.{AllocError}
 use Rattle.texts.specs.declared.buffer.LineBuffer.{LineBuffer}
@@ -49,6 +52,20 @@ gathered_more g b = record {
 abbrev pub after_push : Result (Unit {0}) AllocError → Gathered → ℕ → Gathered
 after_push (Ok _) g b = gathered_more g b
 after_push (Err _) g b = g
+
+-- some bytes more, each in its turn
+abbrev pub gathered_more_all : Gathered → List ℕ → Gathered
+gathered_more_all g [] = g
+gathered_more_all g (b ∷ bs) = gathered_more_all (gathered_more g b) bs
+
+-- what is gathered after they were all taken at once, if that was answered so
+abbrev pub after_extend : Result (Unit {0}) AllocError → Gathered → List ℕ → Gathered
+after_extend (Ok _) g bs = gathered_more_all g bs
+after_extend (Err _) g bs = g
+
+-- whether a byte ends a line
+abbrev pub is_newline : ℕ → Bool
+is_newline b = b == 10
 
 -- the line, unless there were more bytes than may be kept
 abbrev pub whole_line : Gathered → Option (List ℕ)

@@ -6,6 +6,7 @@
 --   first_word         what stands before a line's first space
 --   form_of            the form of a line's command: the first that begins with the line's first word
 --   IsRead             what may be told of words that have this form to follow
+--   IsReadIn           what may be read in these words, unless there was no memory for what they say
 --   IsToldOf           what may be told of these bytes of a line
 --   Told               what may be told of a line
 --   HasForm            a line that is neither too long nor blank, and has a form to follow
@@ -18,7 +19,7 @@
 --   Asks               the same, with what always stays
 -- numbers:
 --   Fits               what is read where a word writes this number, if it writes one
-use Rattle.std.specs.Prelude.{◌≡◌, ◌≢◌, ℕ, ◌+◌, ◌-◌, ◌^◌, Bool, true, false, List, [], ◌∷◌, ◌++◌, All, Some, None, Option, Ok, Err, Result, IfSome, IsSome, MatchOption, ◌⊎◌, ◌==◌, codes, decimal, get_or, nat_eq}
+use Rattle.std.specs.Prelude.{◌≡◌, ◌≢◌, ℕ, ◌+◌, ◌-◌, ◌^◌, Bool, true, false, List, [], ◌∷◌, ◌++◌, All, Some, None, Option, Ok, Err, Result, IfSome, IsSome, MatchOption, ◌⊎◌, ◌==◌, codes, decimal, get_or, nat_eq, ⊤}
 use Rattle.std.specs.Borrow.{Bor}
 use Rattle.std.specs.Io.BufRead.{first_piece, DropsThrough}
 use Rattle.std.specs.Io.KnownBytes.{Consumes, IsAtEnd}
@@ -31,7 +32,7 @@ use Rattle.texts.specs.Buffers.{Gathered, gathered, gathered_of, whole_line}
 use Rattle.texts.specs.Texts.{fields_of, is_empty}
 use Rattle.texts.specs.declared.command.Commands.{Commands}
 use Rattle.texts.specs.declared.command.Misread.{Misread}
-use Rattle.texts.specs.declared.command.Misread.TheVariants.{Form}
+use Rattle.texts.specs.declared.command.Misread.TheVariants.{Form, Memory}
 use Rattle.texts.specs.declared.command.NoCommand.{NoCommand}
 use Rattle.texts.specs.declared.command.NoCommand.TheVariants.{Blank, LongLine, Unknown, Expected}
 
@@ -61,6 +62,12 @@ form_of forms line = find (λ form. pointwise nat_eq (first_word form.now) (firs
 abbrev pub IsRead : {C : Type 0} → (List (List ℕ) → Result C Misread → Type 0) → Bor (List ℕ) → List (List ℕ) → Result C NoCommand → Type 0
 IsRead gives form words (Ok command) = gives words (Ok command)
 IsRead gives form words (Err reason) = (reason ≡ Expected form) × gives words (Err Form)
+
+-- what may be read in these words, unless there was no memory for what they say
+abbrev pub IsReadIn : {C : Type 0} → (List (List ℕ) → Result C Misread → Type 0) → List (List ℕ) → Result C Misread → Type 0
+IsReadIn gives words (Ok command) = gives words (Ok command)
+IsReadIn gives words (Err Form) = gives words (Err Form)
+IsReadIn gives words (Err (Memory e)) = ⊤
 
 -- what may be told of these bytes of a line, which are blank or not, and have a form to follow or none
 abbrev pub IsToldOf : {C : Type 0} → (List (List ℕ) → Result C Misread → Type 0) → List ℕ → Bool → Option (Bor (List ℕ)) → Result C NoCommand → Type 0

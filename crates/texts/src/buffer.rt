@@ -1,8 +1,9 @@
 // A line of text that is gathered byte by byte, of which no more than a fixed number of bytes are kept.
 ghost use Rattle.std.specs.Prelude.{◌≡◌, ◌≤◌, true, false, not, ◌&&◌, length, is_ok, IfOk, OnOk, IfSome};
+ghost use Rattle.std.specs.List.{position};
 ghost use Rattle.std.specs.Option.{option_map};
 ghost use Rattle.std.specs.Io.BufRead.{first_piece, DropsThrough};
-ghost use Rattle.texts.specs.Buffers.{gathered, nothing_gathered, gathered_of, Gathers, after_push, whole_line};
+ghost use Rattle.texts.specs.Buffers.{gathered, nothing_gathered, gathered_of, is_newline, Gathers, after_push, after_extend, whole_line};
 ghost use Rattle.texts.specs.Texts.{is_empty};
 
 use std::alloc::{AllocError, Global};
@@ -44,6 +45,20 @@ impl LineBuffer {
         Ok(())
     }
 
+    // More bytes, all at once: what each would leave if it was pushed. Where there is no memory for them, the line is as it was.
+    fn extend(&mut self, bytes: &[u8]) -> Result<(), AllocError>
+        ensures { gathered self.new ≡ after_extend result (gathered self.old) bytes.now }
+    {
+        let room = self.most.saturating_sub(self.bytes.len());
+        if bytes.len() > room {
+            self.bytes.extend_from_slice(&bytes[..room])?;
+            self.over = true;
+        } else {
+            self.bytes.extend_from_slice(bytes)?;
+        }
+        Ok(())
+    }
+
     /// Begins a new line.
     pub fn clear(&mut self)
         ensures { gathered self.new ≡ nothing_gathered (gathered self.old).most }
@@ -67,15 +82,20 @@ impl LineBuffer {
         self.clear();
         // the input ends it
         for _ in 0..u64::MAX {
-            match input.fill_buf()?.first().copied() {
-                None => return Ok(!self.is_empty()),
-                Some(b'\n') => {
-                    input.consume(1);
+            let shown = input.fill_buf()?;
+            if shown.is_empty() {
+                return Ok(!self.is_empty());
+            }
+            match newline_in(shown) {
+                Some(end) => {
+                    self.extend(&shown[..end])?;
+                    input.consume(end + 1);
                     return Ok(true);
                 }
-                Some(byte) => {
-                    self.push(byte)?;
-                    input.consume(1);
+                None => {
+                    let count = shown.len();
+                    self.extend(shown)?;
+                    input.consume(count);
                 }
             }
         }
@@ -98,4 +118,11 @@ impl LineBuffer {
         }
         Some(self.bytes.as_slice())
     }
+}
+
+// Where the first newline stands, if there is one.
+fn newline_in(bytes: &[u8]) -> Option<usize>
+    ensures { result ≡ position is_newline bytes.now }
+{
+    bytes.iter().position(|byte| *byte == b'\n')
 }

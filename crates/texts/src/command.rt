@@ -1,14 +1,16 @@
 // Lines that ask for something: a line's words are its fields, and the first of them names the command.
-ghost use Rattle.std.specs.Prelude.{◌≡◌, ℕ, List, Some, Result, map, vec_items, IfOk, OnErr, ⊤};
+ghost use Rattle.std.specs.Prelude.{◌≡◌, ℕ, List, Some, Result, map, vec_items, IfOk, OnErr, ⊤, nat_eq};
 ghost use Rattle.std.specs.Iterator.{at_most};
 ghost use Rattle.texts.specs.Buffers.{gathered};
 ghost use Rattle.texts.specs.Texts.{fields_of, number_of};
-ghost use Rattle.texts.specs.Commands.{no_command_words, form_of, reader, reader_at, Asks, HasForm, Told, Fits};
+ghost use Rattle.std.specs.Cmp.Lexicographic.{pointwise};
+ghost use Rattle.texts.specs.Commands.{first_word, no_command_words, form_of, reader, reader_at, Asks, HasForm, IsReadIn, Told, Fits};
 ghost use Rattle.texts.specs.declared.command.Misread.{Misread};
 ghost use Rattle.texts.specs.declared.command.Misread.TheVariants.{Memory};
 
 use crate::line::first_word;
 use crate::{Fields, LONGEST_LINE, LineBuffer, number};
+use arrayvec::ArrayVec;
 use std::alloc::{AllocError, Global};
 use std::error::Error;
 use std::io::BufRead;
@@ -139,11 +141,23 @@ fn command_of<C: FromWords>(
     let Some(form) = form_for(forms, bytes) else {
         return Ok(Err(NoCommand::Unknown));
     };
-    let words = words_of(heap, bytes)?;
-    match C::from_words(heap, words.as_slice()) {
+    match read_words(heap, bytes) {
         Ok(command) => Ok(Ok(command)),
         Err(Misread::Form) => Ok(Err(NoCommand::Expected(form))),
         Err(Misread::Memory(e)) => Err(e),
+    }
+}
+
+// Words that are kept without memory being asked for: more than a command has that takes no list.
+const FEW: usize = 8;
+
+/// What the fields of `line` ask for.
+fn read_words<C: FromWords>(heap: Global, line: &[u8]) -> Result<C, Misread>
+    ensures { IsReadIn C.from_words_gives (fields_of line.now) result }
+{
+    match ArrayVec::<&[u8], FEW>::from_iter(heap, Fields::new(line)) {
+        Ok(words) => C::from_words(heap, words.as_slice()),
+        Err(_) => C::from_words(heap, words_of(heap, line)?.as_slice()),
     }
 }
 
@@ -161,8 +175,16 @@ fn form_for(forms: &[&'static str], line: &[u8]) -> Option<&'static str>
     let name = first_word(line);
     forms
         .iter()
-        .find(|form| first_word(form.as_bytes()) == name)
+        .find(|form| is_named(form.as_bytes(), name))
         .copied()
+}
+
+/// Whether a form begins with this name of a command.
+fn is_named(form: &[u8], name: &[u8]) -> bool
+    ensures { result ≡ pointwise nat_eq (first_word form.now) name.now }
+{
+    // most forms are told apart by their first byte
+    form.starts_with(name) && first_word(form) == name
 }
 
 /// The integer that `word` writes in decimal digits, if it is below 2^64 and the type has it.

@@ -7,12 +7,10 @@ ghost use Rattle.texts.specs.Texts.{digit_after, number_of, number_up_to, signed
 pub fn number(field: &[u8]) -> Option<u64>
     ensures { result ≡ number_of field.now }
 {
-    if field.is_empty() {
-        return None;
-    }
-    field
-        .iter()
-        .try_fold(0, |value, byte| with_digit(value, *byte))
+    let (first, rest) = field.split_first()?;
+    let start = with_digit(0, *first)?;
+    rest.iter()
+        .try_fold(start, |value, byte| with_digit(value, *byte))
 }
 
 /// The number that `field` writes, as `number` reads it, or `None` where it is above `most`.
@@ -28,7 +26,7 @@ pub fn signed(field: &[u8]) -> Option<i32>
     ensures { result ≡ signed_of field.now }
 {
     match field {
-        [b'-', digits @ ..] => i32::try_from(-i128::from(number(digits)?)).ok(),
+        [b'-', digits @ ..] => i32::try_from(-i64::try_from(number(digits)?).ok()?).ok(),
         _ => i32::try_from(number(field)?).ok(),
     }
 }

@@ -1,5 +1,5 @@
 // Bytes written as text in hexadecimal digits, two for each byte.
-ghost use Rattle.std.specs.Prelude.{◌≡◌, ◌*◌, ◌+◌, ◌<◌, true, length, map, All, vec_items, IfSome, IfOk, string_bytes};
+ghost use Rattle.std.specs.Prelude.{◌≡◌, ◌*◌, ◌+◌, ◌/◌, ◌<◌, true, length, map, All, vec_items, IfSome, IfOk, string_bytes};
 ghost use Rattle.std.specs.List.{list_all};
 ghost use Rattle.std.specs.Option.{option_map};
 ghost use Rattle.texts.specs.Texts.{hex_digit, hex_of, hex_text, hex_value, hex_within, is_hex, pair_value, written_over};
@@ -14,10 +14,10 @@ pub fn hex(text: &[u8], out: &mut [u8]) -> Option<usize>
     ensures bytes { out.new
         ≡ written_over (hex_within (length out.old) text.now) out.old }
 {
-    let pairs = digit_pairs(text)?;
-    if pairs.len() > out.len() {
+    if text.len() / 2 > out.len() {
         return None;
     }
+    let pairs = digit_pairs(text)?;
     // by their places: of what is written through `iter_mut` and an adapter a proof learns nothing
     for (i, [high, low]) in pairs.iter().enumerate() {
         out[i] = byte_of(*high, *low);
@@ -33,7 +33,7 @@ pub fn hex_bytes(heap: Global, text: &[u8]) -> Result<Option<Vec<u8>>, AllocErro
     let Some(pairs) = digit_pairs(text) else {
         return Ok(None);
     };
-    let mut bytes = Vec::new(heap);
+    let mut bytes = Vec::with_capacity(heap, pairs.len())?;
     for [high, low] in pairs {
         bytes.push(byte_of(*high, *low))?;
     }
@@ -44,6 +44,7 @@ pub fn hex_bytes(heap: Global, text: &[u8]) -> Result<Option<Vec<u8>>, AllocErro
 fn digit_pairs(text: &[u8]) -> Option<&[[u8; 2]]>
     ensures bytes { option_map (λ pairs. map pair_value pairs.now) result ≡ hex_of text.now }
     ensures digits { IfSome result (λ pairs. All (λ pair. list_all is_hex pair ≡ true) pairs.now) }
+    ensures len { IfSome result (λ pairs. length pairs.now ≡ length text.now / 2) }
 {
     let (pairs, rest) = text.as_chunks::<2>();
     if rest.is_empty() && all_hex(text) {

@@ -47,8 +47,10 @@ impl<'a> Iterator for Fields<'a> {
 fn cut(line: &[u8]) -> (&[u8], Option<&[u8]>)
     ensures { fields_of line.now ≡ result.0.now ∷ fields_left result.1 }
 {
-    match line.iter().position(|byte| *byte == b' ') {
-        Some(i) => (&line[..i], Some(&line[i + 1..])),
+    let mut rest = line.iter();
+    match rest.position(|byte| *byte == b' ') {
+        // the space was the last byte that `rest` gave
+        Some(i) => (&line[..i], Some(rest.as_slice())),
         None => (line, None),
     }
 }

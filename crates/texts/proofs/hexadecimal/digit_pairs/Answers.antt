@@ -11,4 +11,5 @@ returns-then-all_hex c =
     record {
       bytes = ap (λ ps. Some (map pair_value ps)) c.as_chunks.ensures.front ∙ ap Some (map_pair_value text) ∙ sym even;
       digits = subst (All (λ pair. list_all is_hex pair ≡ true)) (sym c.as_chunks.ensures.front) (pairs_are_hex text (sym c.if-all_hex.ensures));
+      len = c.as_chunks.ensures.front_len;
     }

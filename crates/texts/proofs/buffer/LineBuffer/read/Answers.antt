@@ -1,56 +1,50 @@
-use Rattle.std.proofs.Common.{◌≢◌, Some, [], ◌∷◌, ◌++◌, sym, ap, subst, ◌∙◌}
-use Rattle.std.proofs.lemmas.List.Elements.{All-nil, All-push}
+use Rattle.std.proofs.Common.{◌≢◌, [], ◌++◌, ◌+◌, take, length, sym, ap, subst, ◌∙◌, rules, arith, take_all, le_refl}
+use Rattle.std.proofs.lemmas.List.Elements.{All-nil, All-append}
+use Rattle.std.proofs.lemmas.List.Quantifiers.{position-Some}
 use Rattle.std.specs.Io.BufRead.{FillKeeps}
-use Rattle.std.proofs.KnownBytes.{Consumes-nil, Consumes-kept, Consumes-trans}
-use Rattle.texts.specs.Buffers.{gathered, gathered_more}
-use Rattle.texts.proofs.Lines.{gathered_of_none, gathered_of_more, on_err, first_shown, none_shown, reads_to_newline, reads_to_end}
+use Rattle.std.specs.Io.KnownBytes.{Consumes}
+use Rattle.std.proofs.KnownBytes.{Consumes-nil, Consumes-trans}
+use Rattle.std.proofs.BufReadLemmas.{Consumes_shown}
+use Rattle.texts.specs.Buffers.{gathered, gathered_more_all, is_newline}
+use Rattle.texts.proofs.Lines.{gathered_of_none, gathered_of_all, none_shown, before_newline, through_newline, no_newline, reads_to_newline, reads_to_end}
 use Rattle.texts.proofs.buffer.LineBuffer.read.Goals as goal
 
 pub loop-init : goal.loop-init
 loop-init g c = ([], All-nil _, c.clear.ensures ∙ gathered_of_none _, Consumes-nil _)
 
-pub returns-in_err-fill_buf-clause-gathers : goal.returns-in_err-fill_buf-clause-gathers
-returns-in_err-fill_buf-clause-gathers g c =
+pub returns-then-is_empty : goal.returns-then-is_empty
+returns-then-is_empty g c =
     let (line, all, is, read) = c.loop.invariant in
-    (line, all, is, on_err _ _ (Consumes-kept _ _ _ line read c.fill_buf.follows.holds-at-none.0))
-
-pub returns-in-None : goal.returns-in-None
-returns-in-None g c =
-    let (line, all, is, read) = c.loop.invariant in
-    let none = sym c.in-None.is ∙ c.copied.ensures ∙ c.first.ensures.value in
-    let end = none_shown (g.R.Read.remaining c.loop.input) _ none c.in_ok-fill_buf.ensures.end in
-    let reads = reads_to_end _ _ _ _ _ line _ all is read end c.fill_buf.follows.holds-at-none.0 c.is_empty.ensures in
+    let end = none_shown (g.R.Read.remaining c.loop.input) _ (search rules) c.in_ok-shown.ensures.end in
+    let reads = reads_to_end _ _ _ _ _ line _ all is read end c.fill_buf.follows.holds-at-none.0 c.is_empty-then-is_empty.ensures in
     record { gathers = (line, all, is, tt); line = reads.line; rest = reads.rest; some = reads.some; none = reads.none }
 
-pub returns-in-Some-eq10 : goal.returns-in-Some-eq10
-returns-in-Some-eq10 g c =
+pub returns-in-Some : goal.returns-in-Some
+returns-in-Some g c =
     let (line, all, is, read) = c.loop.invariant in
+    let shown = c.in_ok-shown.shown.now in
+    let end = c.in-Some.end in
+    let piece = take end shown in
+    let found = sym c.newline_in.ensures ∙ c.in-Some.is in
+    let none = before_newline shown end found in
+    let more = ◌∙◌ {b = gathered_more_all (gathered c.loop.self) piece} c.in_ok-extend-in-Some.ensures
+    (ap (λ g. gathered_more_all g piece) is ∙ gathered_of_all c.args.self.now.most line piece) in
     let rested = c.fill_buf.follows.lender-at-none in
-    let fills = subst (FillKeeps _ (g.R.Read.remaining rested) (g.R.BufRead.consumable_len rested)) c.in_ok-fill_buf.was c.fill_buf.follows.holds-at-none in
-    let shown = ap Some (sym c.in-Some-eq10.field-0-test) ∙ sym c.in-Some-eq10.is ∙ c.copied.ensures ∙ c.first.ensures.value in
-    let newline = first_shown _ _ _ _ _ 10 shown c.in_ok-fill_buf.ensures.front c.in_ok-fill_buf.ensures.end fills.0 fills.1 c.consume.ensures.bytes in
-    let reads = reads_to_newline _ _ _ _ _ line all is read newline in
-    record { gathers = (line, all, is, tt); line = reads.line; rest = reads.rest; some = reads.some; none = reads.none }
-
-pub returns-in_err-push-in-Some-clause-gathers : goal.returns-in_err-push-in-Some-clause-gathers
-returns-in_err-push-in-Some-clause-gathers g c =
-    let (line, all, is, read) = c.loop.invariant in
-    (line, all, ◌∙◌ {b = gathered c.loop.self} c.in_err-push-in-Some.ensures.after is, on_err _ _ (Consumes-kept _ _ _ line read c.fill_buf.follows.holds-at-none.0))
+    let fills = subst (FillKeeps _ (g.R.Read.remaining rested) (g.R.BufRead.consumable_len rested)) c.in_ok-shown.was c.fill_buf.follows.holds-at-none in
+    let gone = Consumes_shown _ _ _ _ shown (end + 1) (omega (arith, (position-Some is_newline shown end 0 found).0)) c.in_ok-shown.ensures.front c.in_ok-shown.ensures.end fills.0 fills.1 c.consume.ensures.bytes in
+    let reads = reads_to_newline _ _ _ _ (gathered c.extend.new.self) line piece all none more read (subst (Consumes _ _) (through_newline shown end found) gone.0) in
+    record { gathers = (line ++ piece, All-append (λ b. b ≢ 10) line piece all none, more, tt); line = reads.line; rest = reads.rest; some = reads.some; none = reads.none }
 
 pub loop-preserved : goal.loop-preserved
 loop-preserved g c =
     let (line, all, is, read) = c.loop.invariant in
-    let byte = c.in-Some.byte in
+    let shown = c.in_ok-shown.shown.now in
     let rested = c.fill_buf.follows.lender-at-none in
-    let fills = subst (FillKeeps _ (g.R.Read.remaining rested) (g.R.BufRead.consumable_len rested)) c.in_ok-fill_buf.was c.fill_buf.follows.holds-at-none in
-    let shown = sym c.in-Some.is ∙ c.copied.ensures ∙ c.first.ensures.value in
-    let first = first_shown _ _ _ _ _ byte shown c.in_ok-fill_buf.ensures.front c.in_ok-fill_buf.ensures.end fills.0 fills.1 c.consume-in-Some.ensures.bytes in (
-      line ++ byte ∷ [],
-      All-push (λ b. b ≢ 10) line byte all c.in-Some.byte-test.1,
-      ◌∙◌ {b = gathered_more (gathered c.loop.self) byte} c.in_ok-push-in-Some.ensures.after
-          (ap (λ g. gathered_more g byte) is ∙ gathered_of_more _ byte line),
-      Consumes-trans _ _ _ line (byte ∷ []) read first,
+    let fills = subst (FillKeeps _ (g.R.Read.remaining rested) (g.R.BufRead.consumable_len rested)) c.in_ok-shown.was c.fill_buf.follows.holds-at-none in
+    let gone = Consumes_shown _ _ _ _ shown (length shown) (le_refl _) c.in_ok-shown.ensures.front c.in_ok-shown.ensures.end fills.0 fills.1 c.consume-in-None.ensures.bytes in (
+      line ++ shown,
+      All-append (λ b. b ≢ 10) line shown all (no_newline shown (sym c.newline_in.ensures ∙ c.in-None.is)),
+      ◌∙◌ {b = gathered_more_all (gathered c.loop.self) shown} c.in_ok-extend-in-None.ensures
+          (ap (λ g. gathered_more_all g shown) is ∙ gathered_of_all c.args.self.now.most line shown),
+      Consumes-trans _ _ _ line shown read (subst (Consumes _ _) (take_all (length shown) shown (le_refl _)) gone.0),
     )
-
-pub returns-clause-gathers : goal.returns-clause-gathers
-returns-clause-gathers g c = c.loop.invariant
