@@ -1,12 +1,12 @@
 // What a script line asks for.
 use std::alloc::Global;
-use texts::{FromWords, Misread, hex_bytes, integer};
+use texts::{FromWords, Misread, hex_bytes, integer, number_up_to};
 
 // The most bytes that a line is made over: a few more than 4,097 places have.
-const MOST_BYTES: usize = 5_000_000;
+const MOST_BYTES: u64 = 5_000_000;
 
 // The most bytes of a buffer.
-const MOST_ROOM: usize = 2048;
+const MOST_ROOM: u64 = 2048;
 
 /// In which order a line settles.
 #[derive(Clone, Copy)]
@@ -67,7 +67,7 @@ impl FromWords for Command {
             [b"count"] => Ok(Command::Perform(Call::Count)),
             [b"fetch", number, room] => {
                 let number = integer(number)?;
-                let room = at_most(MOST_ROOM, integer(room)?)?;
+                let room = at_most(MOST_ROOM, room)?;
                 Ok(Command::Perform(Call::Fetch(number, room)))
             }
             [b"agreed"] => Ok(Command::Perform(Call::Agreed)),
@@ -79,11 +79,12 @@ impl FromWords for Command {
 fn make_line(order: Order, bytes: &[u8], fill: &[u8]) -> Result<Command, Misread> {
     Ok(Command::Make(Making {
         order,
-        bytes: at_most(MOST_BYTES, integer(bytes)?)?,
+        bytes: at_most(MOST_BYTES, bytes)?,
         fill: integer(fill)?,
     }))
 }
 
-fn at_most(most: usize, n: usize) -> Result<usize, Misread> {
-    if n <= most { Ok(n) } else { Err(Misread::Form) }
+fn at_most(most: u64, word: &[u8]) -> Result<usize, Misread> {
+    let n = number_up_to(word, most).ok_or(Misread::Form)?;
+    Ok(n as usize)
 }

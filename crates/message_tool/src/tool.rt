@@ -140,13 +140,14 @@ impl<'a, T: Notation, S: Summary> Tool<'a, T, S> {
         println!(self.rt; "snapshot {}", origin.snapshot)?;
         let summary = summary_of::<S>(message);
         self.show_bytes("summary", summary)?;
-        print!(self.rt; "names")?;
+        // the line is printed whole, as each print is a write of its own
+        let mut names = String::from_str(self.rt.alloc(), "names")?;
         for node in nodes {
             if S::query(summary, *node) == Ok(true) {
-                print!(self.rt; " {node}")?;
+                write!(names, " {node}")?;
             }
         }
-        println!(self.rt; "")?;
+        println!(self.rt; "{names}")?;
         for i in 0..writes {
             if let Some(Write { node, setting }) = write_of::<T, S>(message, usize::from(i)) {
                 println!(self.rt; "write {node} {setting}")?;
